@@ -1,0 +1,2 @@
+-- The definitions of the instruction set.
+pub mod Did
