@@ -1,0 +1,3 @@
+-- Lemmas on one instruction.
+pub mod Laws
+pub mod Words

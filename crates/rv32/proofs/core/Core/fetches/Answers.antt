@@ -1,0 +1,7 @@
+-- The shut definition is the open one.
+use Rattle.rv32.specs.Execute.{fetch}
+use Rattle.rv32.proofs.core.Core.fetches.Needs as need
+
+pub returns : need.returns
+unfolding fetch
+returns c = c .counter .ensures

@@ -1,0 +1,3 @@
+// Words of 32 bits, and lent slices of them read and written in parts.
+pub mod line;
+pub mod word;
