@@ -91,3 +91,14 @@ module _ (I : Isa) (C : Chip) where
       (n : ℕ) (m : List (List ℕ)) (cs ds : List Choice) → 1 ≤ n → n ≤ 4 → Memory m →
       ((k : ℕ) → k < n → machine I n m (board C n m cs .did) k .on ≡ false) → 8192 ≤ length ds →
       board C n m (cs ++ ds) .memory ≡ manual-after I n m (board C n m cs .did) .memory
+
+  -- all eight
+  pub record Promises : Type 0 where
+    pub same-said : Same-said
+    pub when-raised : When-raised
+    pub where-let : Where-let
+    pub all-go-on : All-go-on
+    pub taken : Taken
+    pub one-each : One-each
+    pub few : Few
+    pub clean-after : Clean-after
