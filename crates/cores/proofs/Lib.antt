@@ -1,0 +1,8 @@
+-- The proofs: laws of the machines, boards and loops, and from what a chip owes to what it promises.
+pub mod Basics
+pub mod Machines
+pub mod Loop
+pub mod Count
+pub mod Runs
+pub mod Steady
+pub mod Promises
