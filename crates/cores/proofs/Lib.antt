@@ -6,3 +6,7 @@ pub mod Count
 pub mod Runs
 pub mod Steady
 pub mod Promises
+pub mod ToyKeeps
+pub mod ToyEvents
+pub mod ToyTurns
+pub mod ToyOwed

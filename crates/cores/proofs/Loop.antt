@@ -110,3 +110,20 @@ module _ {S : Type 0} (tell : List Event → ℕ) (nil : tell [] ≡ 0) (append 
   pub own-row : (j : ℕ) (c : S) → k < j → tell (each f j c .1 .did) ≡ tell (f k (each f k c .0) .1 .did)
   own-row zero c l = absurd (omega arith)
   own-row (suc j) c l = by-test (eqb j k) (λ e. rw (same j k e) (own-step c)) (λ e. let n : j ≢ k = differ j k e in later-step j c n ∙ own-row j c (omega arith))
+
+-- a loop of steps that tell nothing tells nothing
+pub none-row : {S : Type 0} (tell : List Event → ℕ) → tell [] ≡ 0 → ((xs ys : List Event) → tell (xs ++ ys) ≡ tell xs + tell ys) →
+    (f : ℕ → Step S) → ((j : ℕ) (c : S) → tell (f j c .1 .did) ≡ 0) → (j : ℕ) (c : S) → tell (each f j c .1 .did) ≡ 0
+unfolding each
+none-row tell nil append f none zero c = nil
+none-row tell nil append f none (suc j) c =
+    let e = append (each f j c .1 .did) (f j (each f j c .0) .1 .did) in
+    let a : tell (each f j c .1 .did) ≡ 0 = none-row tell nil append f none j c in
+    let b : tell (f j (each f j c .0) .1 .did) ≡ 0 = none j (each f j c .0) in
+    omega arith
+
+-- a view that no step of a loop changes
+pub each-same : {S V : Type 0} (view : S → V) (f : ℕ → Step S) → ((j : ℕ) (c : S) → view (f j c .0) ≡ view c) → (j : ℕ) (c : S) → view (each f j c .0) ≡ view c
+unfolding each
+each-same view f one zero c = refl
+each-same view f one (suc j) c = one j (each f j c .0) ∙ each-same view f one j c

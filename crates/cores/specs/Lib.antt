@@ -6,3 +6,5 @@ pub mod Promise
 pub mod Put
 pub mod Loop
 pub mod Owed
+pub mod Toy
+pub mod Runs

@@ -3,15 +3,11 @@ ghost use Rattle.rv32.specs.Laws.{Interrupt-keeps-words, Keeps-words, Needs-wi
 ghost use Rattle.rv32.specs.Laws.{Stores-needed, Supplied-does, Two-words};
 
 // An instruction depends on memory only at pc and at its data word, which lies inside memory; it stores to the word that it said it needs.
-pub fn looks_at_two_words() -> u8
+pub fn looks_at_two_words()
     ensures { λ _. ⌜ Two-words ⌝ ∗ ⌜ No-data ⌝ ∗ ⌜ Supplied-does ⌝ ∗ ⌜ Needs-within ⌝ ∗ ⌜ Stores-needed ⌝ }
-{
-    0
-}
+{}
 
 // Registers stay words below 2^32, and x0 stays 0.
-pub fn keeps_words() -> u8
+pub fn keeps_words()
     ensures { λ _. ⌜ Keeps-words ⌝ ∗ ⌜ Interrupt-keeps-words ⌝ ∗ ⌜ Starts-with-words ⌝ ∗ ⌜ Not-let-inside ⌝ }
-{
-    0
-}
+{}

@@ -24,8 +24,6 @@ pub fn put_line(words: &mut [u32], i: usize, line: [u32; 8])
 }
 
 // Memory's lines are read and written as the words that they are decoded from.
-pub fn lines_of_words() -> u8
+pub fn lines_of_words()
     ensures { λ _. ⌜ Line-count ⌝ ∗ ⌜ Line-word ⌝ ∗ ⌜ Line-set ⌝ ∗ ⌜ Line-block ⌝ ∗ ⌜ Line-written ⌝ }
-{
-    0
-}
+{}

@@ -73,8 +73,6 @@ pub fn with_half(word: u32, address: u32, x: u32) -> u32
 }
 
 // A word is its four bytes, or its two halves, low byte first; what is written of it is there, and the rest stays; extension keeps the bits.
-pub fn parts_of_a_word() -> u8
+pub fn parts_of_a_word()
     ensures { λ _. ⌜ Four-bytes ⌝ ∗ ⌜ Two-halves ⌝ ∗ ⌜ Field-replaced ⌝ ∗ ⌜ Extended-same ⌝ }
-{
-    0
-}
+{}

@@ -1,0 +1,5 @@
+use Rattle.cores.proofs.ToyOwed.{toy-promises}
+use Rattle.cores.proofs.cores_go_on.Needs as need
+
+pub returns : need.returns
+returns c = toy-promises .all-go-on

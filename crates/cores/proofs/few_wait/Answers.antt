@@ -1,0 +1,5 @@
+use Rattle.cores.proofs.ToyOwed.{toy-promises}
+use Rattle.cores.proofs.few_wait.Needs as need
+
+pub returns : need.returns
+returns c = toy-promises .few

@@ -1,0 +1,5 @@
+use Rattle.cores.proofs.ToyOwed.{toy-promises}
+use Rattle.cores.proofs.interrupts_taken.Needs as need
+
+pub returns : need.returns
+returns c = toy-promises .taken

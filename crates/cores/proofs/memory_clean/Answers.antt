@@ -1,0 +1,5 @@
+use Rattle.cores.proofs.ToyOwed.{toy-promises}
+use Rattle.cores.proofs.memory_clean.Needs as need
+
+pub returns : need.returns
+returns c = toy-promises .clean-after

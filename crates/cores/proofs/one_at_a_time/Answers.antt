@@ -1,0 +1,5 @@
+use Rattle.cores.proofs.ToyOwed.{toy-promises}
+use Rattle.cores.proofs.one_at_a_time.Needs as need
+
+pub returns : need.returns
+returns c = toy-promises .one-each
