@@ -3,6 +3,7 @@
 ghost use Rattle.cores.specs.Promise.{All-go-on, Clean-after, Few, One-each, Same-said, Taken, When-raised, Where-let};
 ghost use Rattle.cores.specs.Runs.{Toy-runs};
 ghost use Rattle.cores.specs.Toy.{toy-chip, toy-isa};
+
 pub mod port;
 
 // What each core of the toy chip has said is what its machine says, in the order in which the chip has done their events.
