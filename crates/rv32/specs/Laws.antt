@@ -4,6 +4,8 @@ use mathlib.Core.Path.{_≡_}
 use mathlib.Core.Bool.{false}
 use Prim.Native.Nat.{ℕ, _*_, _/_, _^_, _<_}
 use lib.ListN.{length, getD}
+use Rattle.std.specs.declared.option.Option.{Option}
+use Rattle.std.specs.declared.option.Option.the-variants.{Some, None}
 use Rattle.rv32.specs.Decode.{decode}
 use Rattle.rv32.specs.Did.{Did, goes, stores, says, stops}
 use Rattle.rv32.specs.Execute.{address, does, enters, execute, lets, need, one, start}
@@ -35,6 +37,11 @@ abbrev pub Supplied-does : Type 0
 Supplied-does =
     (lines : ℕ) (c : Core) (read : ℕ → ℕ) (x : ℕ) → Supplied read x (need lines c (decode (read (c .pc / 4)))) →
     one lines c read ≡ does lines c (read (c .pc / 4)) x
+
+-- what is fetched is a word of memory
+abbrev pub Fetched-within : ℕ → Option ℕ → Type 0
+Fetched-within lines None = Unit {0}
+Fetched-within lines (Some a) = a < 8 * lines
 
 -- a need is for a word of memory
 abbrev pub Within : ℕ → Need → Type 0

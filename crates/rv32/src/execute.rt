@@ -4,7 +4,7 @@ ghost use Prim.Native.Nat.{_<_};
 ghost use Rattle.rv32.specs.Arithmetic.{signed-below};
 ghost use Rattle.rv32.specs.Execute.{at, combined, enters, execute, execute-rule, fetch, fetch-rule, load-size, loaded, loads, need, need-rule, next, operate, puts};
 ghost use Rattle.rv32.specs.Execute.{reaches, register, returns, start, store-size, stored, swaps, taken, tells, with-lets, with-register};
-ghost use Rattle.rv32.specs.Laws.{Stores-within, Within};
+ghost use Rattle.rv32.specs.Laws.{Fetched-within, Stores-within, Within};
 use crate::core::*;
 use crate::instruction::*;
 use words::word::byte_at;
@@ -359,7 +359,8 @@ impl Core {
     }
 
     fn counter(self, lines: u32) -> Option<u32>
-        ensures { λ r. ⌜ r ≡ fetch-rule lines self ⌝ }
+        ensures value { λ r. ⌜ r ≡ fetch-rule lines self ⌝ }
+        ensures within { λ r. ⌜ Fetched-within lines r ⌝ }
     {
         if reached(lines, 4, self.pc) {
             Some(self.pc / 4)
@@ -413,7 +414,8 @@ impl Core {
 
     // The number of the word that the next instruction is fetched from, in a memory of so many lines; none where pc stops the core.
     pub fn fetches(self, lines: u32) -> Option<u32>
-        ensures { λ r. ⌜ r ≡ fetch lines self ⌝ }
+        ensures value { λ r. ⌜ r ≡ fetch lines self ⌝ }
+        ensures within { λ r. ⌜ Fetched-within lines r ⌝ }
     {
         self.counter(lines)
     }

@@ -4,4 +4,4 @@ use Rattle.rv32.proofs.core.Core.fetches.Needs as need
 
 pub returns : need.returns
 unfolding fetch
-returns c = c .counter .ensures
+returns c = record { value = c .counter .ensures .value; within = c .counter .ensures .within }
