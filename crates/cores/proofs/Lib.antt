@@ -1,5 +1,6 @@
 -- The proofs: laws of the machines, boards and loops, and from what a chip owes to what it promises.
 pub mod Basics
+pub mod Memory
 pub mod Machines
 pub mod Loop
 pub mod Count

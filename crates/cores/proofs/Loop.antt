@@ -1,6 +1,6 @@
 -- What small steps keep, a cycle keeps; and what a loop over cores does to one core is what that core's own step does.
 use mathlib.Core.Path.{_≡_, refl, _∙_}
-use mathlib.Core.List.{List, [], _∷_, _++_, append-assoc}
+use mathlib.Core.List.{List, [], _++_, append-assoc}
 use mathlib.Core.Logic.{_≢_}
 use Prim.Native.Nat.{ℕ, zero, suc, _+_, _<_, _≤_}
 use native.Mathlib.Omega.{arith}
@@ -8,7 +8,7 @@ use lib.Dec.{eqb}
 use lib.ListN.{length}
 use Rattle.cores.specs.Machines.{Event, Isa, Manual, events}
 use Rattle.cores.specs.Board.{Out, with-lines}
-use Rattle.cores.specs.Loop.{silent, joined, Step, then, each}
+use Rattle.cores.specs.Loop.{silent, Step, then, each}
 use Rattle.cores.specs.Owed.{Allowed}
 use Rattle.cores.proofs.Basics.{by-test, same, differ, append-nil, with-lines-append}
 use Rattle.cores.proofs.Machines.{events-append, events-many, allowed-append}

@@ -9,7 +9,7 @@ use lib.Dec.{ltb}
 use lib.ListN.{length, getD, set, length-set, List·getD-eq-default}
 use lib.Seq.{getD-set-other}
 use Rattle.rv32.specs.Did.{Did, goes, stores, says, stops}
-use Rattle.cores.specs.Machines.{Event, step, interrupt, steps, interrupts, Isa, Core, Manual, core, after, event, events, fresh-cores, begins, manual-after}
+use Rattle.cores.specs.Machines.{word, Event, step, interrupt, steps, interrupts, Isa, Core, Manual, core, after, event, events, fresh-cores, begins, manual-after}
 use Rattle.cores.specs.Put.{put}
 use Rattle.cores.specs.Owed.{Allowed}
 use Rattle.cores.proofs.Basics.{by-test, choose, less, not-less, set-put}
@@ -61,6 +61,18 @@ module _ (I : Isa) where
   allowed-at μ [] ys k a = a .0
   allowed-at μ (step j ∷ xs) ys k a = allowed-at (event I μ (step j)) xs ys k a
   allowed-at μ (interrupt j ∷ xs) ys k a = allowed-at (event I μ (interrupt j)) xs ys k (a .1)
+
+  -- an instruction of a core that goes
+  pub did-step : (μ : Manual I) (k : ℕ) (d : Did (I .Cpu)) → on μ k ≡ true → I .one (length (μ .memory)) (core I μ k .cpu) (word (μ .memory)) ≡ d →
+      events I μ (step k ∷ []) ≡ after I μ k d
+  unfolding events event
+  did-step μ k d o e = rw (o, e)
+
+  -- an interrupt of a core that goes
+  pub did-interrupt : (μ : Manual I) (k : ℕ) → on μ k ≡ true →
+      events I μ (interrupt k ∷ []) ≡ record { cores = set (μ .cores) k (record { cpu = I .enters (core I μ k .cpu); on = true }); memory = μ .memory; said = μ .said }
+  unfolding events event
+  did-interrupt μ k o = rw o
 
   -- core j after an instruction of core k
   pub after-core : (μ : Manual I) (k : ℕ) (d : Did (I .Cpu)) (j : ℕ) → k < length (μ .cores) →

@@ -1,13 +1,13 @@
 -- Runs on any board: what holds at power-on and is kept by each cycle holds after every row of choices. From there to six of the promises.
 use mathlib.Core.Path.{_≡_, refl, sym, ap, subst, _∙_}
-use mathlib.Core.Bool.{Bool, true, false}
+use mathlib.Core.Bool.{false}
 use mathlib.Core.List.{List, [], _∷_, _++_, append-assoc}
-use Prim.Native.Nat.{ℕ, _+_, _-_, _<_, _≤_}
+use Prim.Native.Nat.{ℕ, _-_, _≤_}
 use native.Mathlib.Omega.{arith}
 use lib.ListN.{length}
-use Rattle.cores.specs.Machines.{Event, interrupt, steps, interrupts, said-by, Isa, Manual, core, events, begins, manual-after}
-use Rattle.cores.specs.Board.{Choice, Out, Board, new-board, board-after, Chip, cycles, powered}
-use Rattle.cores.specs.Promise.{Memory, Same-said, When-raised, Where-let, One-each, once, Few, Clean-after}
+use Rattle.cores.specs.Machines.{Event, Isa, Manual, core, events, begins, manual-after}
+use Rattle.cores.specs.Board.{Choice, Board, new-board, board-after, Chip, cycles, powered}
+use Rattle.cores.specs.Promise.{Memory, Same-said, When-raised, Where-let, One-each, Few, Clean-after}
 use Rattle.cores.specs.Owed.{Allowed, cycled, next-board, Relation, Kept, Faithful, Bounded, Drains}
 use Rattle.cores.proofs.Basics.{append-nil, with-lines-length}
 use Rattle.cores.proofs.Machines.{events-append, steps-append, interrupts-append, allowed-append, allowed-at, manual-many, events-still, all-off}

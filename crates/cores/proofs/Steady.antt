@@ -7,10 +7,10 @@ use Prim.Native.Nat.{ℕ, zero, suc, _+_, _-_, _*_, _<_, _≤_}
 use native.Mathlib.Omega.{arith}
 use lib.Dec.{eqb}
 use lib.ListN.{length, getD}
-use Rattle.cores.specs.Machines.{pick, Event, steps, interrupts, Isa, Manual, core, events, begins, manual-after}
-use Rattle.cores.specs.Board.{Choice, Board, among, handed, kept, board-after, Chip, due, later, asked, Steady, steady-cycle, steady, steady-start}
+use Rattle.cores.specs.Machines.{pick, steps, interrupts, Isa, Manual, core, events, begins, manual-after}
+use Rattle.cores.specs.Board.{Choice, among, handed, kept, board-after, Chip, due, later, asked, Steady, steady-cycle, steady, steady-start}
 use Rattle.cores.specs.Promise.{Memory, All-go-on, Taken}
-use Rattle.cores.specs.Owed.{following, lines, Timely, cycled, next-board, board-of, steady-did, Relation, Kept, Faithful, Running, By-turns}
+use Rattle.cores.specs.Owed.{following, lines, Timely, cycled, board-of, steady-did, Relation, Kept, Faithful, Running, By-turns}
 use Rattle.cores.proofs.Basics.{by-test, same, differ}
 use Rattle.cores.proofs.Machines.{events-append, steps-append, interrupts-append, manual-many, events-off}
 use Rattle.cores.proofs.Count.{kept-till, grown, often, rank-by-turns, rank-passes, rank-small}

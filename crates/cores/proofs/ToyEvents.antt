@@ -1,19 +1,18 @@
 -- What a cycle of the toy chip does: the interrupts that are let and raised, and at most one instruction.
 use mathlib.Core.Path.{_≡_, refl, sym, ap, subst, _∙_}
 use mathlib.Core.Bool.{Bool, true, false, _&&_, false≢true}
-use mathlib.Core.List.{List, [], _∷_, _++_}
+use mathlib.Core.List.{List, [], _∷_}
 use mathlib.Core.Logic.{_≢_}
-use Prim.Native.Nat.{ℕ, zero, suc, _+_, _<_, _≤_, _%_}
+use Prim.Native.Nat.{ℕ, _<_, _≤_, _%_}
 use native.Mathlib.Omega.{arith}
 use lib.Dec.{eqb, ltb}
-use lib.ListN.{length, getD, set}
+use lib.ListN.{length, getD}
 use lib.Seq.{getD-set-other}
-use Rattle.rv32.specs.Did.{stops}
-use Rattle.cores.specs.Machines.{pick, Event, step, interrupt, steps, interrupts, Core, Manual, core, event, events}
+use Rattle.cores.specs.Machines.{Event, step, steps, interrupts, Core, Manual, core}
 use Rattle.cores.specs.Board.{Out, handed, kept}
 use Rattle.cores.specs.Loop.{each}
 use Rattle.cores.specs.Owed.{Allowed}
-use Rattle.cores.specs.Toy.{does, toy-isa, Phase, idle, waits, holds, dirty, State, core-of, mine, line, gives, may, entered, attends, finishes, requests, skips, acts-at, acts, toy-cycle}
+use Rattle.cores.specs.Toy.{does, toy-isa, Phase, idle, waits, holds, dirty, State, core-of, mine, line, gives, may, entered, attends, acts-at, acts, toy-cycle}
 use Rattle.cores.proofs.Basics.{by-test, choose, same, differ}
 use Rattle.cores.proofs.Machines.{steps-append, interrupts-append}
 use Rattle.cores.proofs.Loop.{Lets, each-lets, then-lets, before, own-row, none-row}

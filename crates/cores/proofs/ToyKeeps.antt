@@ -2,22 +2,22 @@
 use mathlib.Core.Path.{_≡_, refl, sym, ap, subst, _∙_}
 use mathlib.Core.Bool.{Bool, true, false, _&&_, false≢true}
 use mathlib.Core.List.{List, [], _∷_, _++_}
-use mathlib.Core.Logic.{_≢_}
-use Prim.Native.Nat.{ℕ, zero, suc, _+_, _<_, _≤_, _/_, _%_}
+use Prim.Native.Nat.{ℕ, _<_, _≤_, _/_, _%_}
 use native.Mathlib.Omega.{arith}
 use lib.Dec.{eqb, ltb}
 use lib.ListN.{length, getD, set, length-set, List·getD-eq-default}
 use lib.Seq.{getD-set-same, getD-set-other}
 use Rattle.rv32.specs.Did.{Did, goes, stores, says, stops}
-use Rattle.cores.specs.Machines.{pick, step, interrupt, Core, Manual, core, after, event, events, begins, word, with-word}
+use Rattle.cores.specs.Machines.{pick, step, interrupt, Core, Manual, core, after, events, begins, word, with-word}
 use Rattle.cores.specs.Board.{with-lines, among, handed, kept}
 use Rattle.cores.specs.Promise.{Memory}
-use Rattle.cores.specs.Loop.{silent, Step, then, each}
+use Rattle.cores.specs.Loop.{each}
 use Rattle.cores.specs.Owed.{following}
-use Rattle.cores.specs.Toy.{Registers, does, toy-isa, Phase, idle, waits, holds, dirty, State, core-of, mine, line, received, gives, may, entered, attends, passes, finishes, requests, skips, acts-at, acts, toy-cycle, toy-chip}
+use Rattle.cores.specs.Toy.{Registers, does, toy-isa, Phase, idle, waits, holds, dirty, State, core-of, mine, line, received, gives, may, entered, attends, passes, finishes, acts-at, acts, toy-cycle, toy-chip}
 use Rattle.cores.proofs.Basics.{by-test, choose, same, differ, less, not-less, append-nil}
-use Rattle.cores.proofs.Machines.{fresh-many}
-use Rattle.cores.proofs.Loop.{After, Keeps, stay-keeps, then-keeps, then-here, each-keeps}
+use Rattle.cores.proofs.Memory.{Line, memory-line, line-set, memory-set}
+use Rattle.cores.proofs.Machines.{fresh-many, did-step, did-interrupt}
+use Rattle.cores.proofs.Loop.{After, Keeps, stay-keeps, then-keeps, each-keeps}
 
 -- memory as the manual has it: with the line that is still to be written
 abbrev pub flushed : Phase → List (List ℕ) → List (List ℕ)
@@ -38,7 +38,7 @@ abbrev pub Fits : Phase → Core toy-isa → ℕ → List (List ℕ) → Type 0
 Fits idle x n m = Unit {0}
 Fits waits x n m = (x .on ≡ true) × (line x < n)
 Fits (holds ws) x n m = (x .on ≡ true) × (line x < n) × (ws ≡ getD m (line x) [])
-Fits (dirty a ws) x n m = (length ws ≡ 8) × ((j : ℕ) → getD ws j 0 < 4294967296)
+Fits (dirty a ws) x n m = Line ws
 
 -- the manual's machines, read off the chip and the board
 abbrev pub manual-of : State → List (List ℕ) → List (ℕ × ℕ) → Manual toy-isa
@@ -68,24 +68,6 @@ starts n m p q r = record {
   fits = tt;
   waiting = refl;
 }
-
--- what holds of the new element, of the others and past the end holds wherever a list is read after a write
-read-set : {A : Type 0} (P : A → Type 0) (xs : List A) (i : ℕ) (x d : A) (j : ℕ) → P x → P d → P (getD xs j d) → P (getD (set xs i x) j d)
-read-set P xs i x d j p q r = by-test (eqb j i)
-    (λ e. by-test (ltb i (length xs)) (λ t. rw (same j i e, getD-set-same xs i x d (less i (length xs) t)) p)
-    (λ t. let past : length (set xs i x) ≤ j = rw (length-set xs i x, same j i e) (not-less i (length xs) t) in rw (List·getD-eq-default (set xs i x) d past) q))
-    (λ e. rw (getD-set-other xs i j x d (differ j i e)) r)
-
--- a memory with another line
-memory-set : (m : List (List ℕ)) (a : ℕ) (ws : List ℕ) → Memory m → length ws ≡ 8 → ((j : ℕ) → getD ws j 0 < 4294967296) → Memory (set m a ws)
-unfolding Memory
-memory-set m a ws r e h = (
-  rw (length-set m a ws) (r .0),
-  rw (length-set m a ws) (r .1),
-  (λ k l. let l' : k < length m = rw (length-set m a ws) at l in
-      by-test (eqb k a) (λ t. rw (same k a t, getD-set-same m a ws [] (rw (same k a t) at l')) e) (λ t. rw (getD-set-other m a k ws [] (differ k a t)) (r .2 k l'))),
-  (λ k j. read-set (λ (v : List ℕ). getD v j 0 < 4294967296) m a ws [] k (h j) (omega arith) (r .3 k j)),
-)
 
 -- lines that come
 module _ (cs : List (Core toy-isa)) (n t : ℕ) (m : List (List ℕ)) (s : List (ℕ × ℕ)) (μ : Manual toy-isa) where
@@ -144,18 +126,13 @@ may-on up k h e = go (core-of (h .cores) k .on) (up k) (core-of (h .cores) k .cp
     go : (a b c : Bool) → (a && (b && c)) ≡ true → (a ≡ true) × (b ≡ true) × (c ≡ true)
     go a b c e = grind arith
 
-did-interrupt : (h : State) (m : List (List ℕ)) (s : List (ℕ × ℕ)) (k : ℕ) → core-of (h .cores) k .on ≡ true →
-    events toy-isa (manual-of h m s) (interrupt k ∷ []) ≡ record { cores = set (h .cores) k (entered (core-of (h .cores) k)); memory = flushed (h .phase) m; said = s }
-unfolding events event core
-did-interrupt h m s k o = rw o
-
 pub attends-keeps : (up : ℕ → Bool) (n k : ℕ) → Keeps toy-isa Agrees n (attends up k)
-unfolding with-lines
+unfolding with-lines core
 attends-keeps up n k h m w s μ e g = choose (λ r. After toy-isa Agrees r m w s μ) (may up k h) _ _
     (λ t. let o = may-on up k h t .0 in
     let z = entered-core (h .cores) k (h .turn) o in
     record {
-      machines = ap (λ (ν : Manual toy-isa). events toy-isa ν (interrupt k ∷ [])) (g .machines) ∙ did-interrupt h m s k o ∙ rw (append-nil s);
+      machines = ap (λ (ν : Manual toy-isa). events toy-isa ν (interrupt k ∷ [])) (g .machines) ∙ did-interrupt toy-isa (manual-of h m s) k o ∙ rw (append-nil s);
       size = g .size;
       four = rw (length-set (h .cores) k (entered (core-of (h .cores) k))) (g .four);
       turns = rw (length-set (h .cores) k (entered (core-of (h .cores) k))) (g .turns);
@@ -198,16 +175,12 @@ stops-past m n c e l = rw (e, l)
 
 module _ (cs : List (Core toy-isa)) (n t : ℕ) (m : List (List ℕ)) (s : List (ℕ × ℕ)) where
   -- the machines, where nothing is left to write
-  abbrev now : Manual toy-isa
-  now = record { cores = cs; memory = m; said = s }
+  abbrev settled : Manual toy-isa
+  settled = record { cores = cs; memory = m; said = s }
 
-  did-step : (d : Did Registers) → core-of cs t .on ≡ true → toy-isa .one (length m) (core-of cs t .cpu) (word m) ≡ d → events toy-isa now (step t ∷ []) ≡ after toy-isa now t d
-  unfolding events event core
-  did-step d o e = rw (o, e)
-
-  -- the same by the chip
+  -- an instruction does to the machines what it does to the chip and the board
   after-same : (ws : List ℕ) (d : Did Registers) (p : Phase) → Right m ws d →
-      after toy-isa now t d
+      after toy-isa settled t d
       ≡ manual-of (finishes ws d (chip-at cs n t p) .0) (with-lines m (finishes ws d (chip-at cs n t p) .1 .writes)) (s ++ finishes ws d (chip-at cs n t p) .1 .says)
   unfolding after with-lines with-word core
   after-same ws (goes c) p r = rw (append-nil s)
@@ -232,21 +205,18 @@ module _ (cs : List (Core toy-isa)) (n t : ℕ) (m : List (List ℕ)) (s : List 
     finish-agrees : (ws : List ℕ) (d : Did Registers) (p : Phase) (μ : Manual toy-isa) → Right m ws d →
         μ ≡ manual-of (finishes ws d (chip-at cs n t p) .0) (with-lines m (finishes ws d (chip-at cs n t p) .1 .writes)) (s ++ finishes ws d (chip-at cs n t p) .1 .says) →
         Agrees (finishes ws d (chip-at cs n t p) .0) (with-lines m (finishes ws d (chip-at cs n t p) .1 .writes)) ([] ++ finishes ws d (chip-at cs n t p) .1 .asks) (s ++ finishes ws d (chip-at cs n t p) .1 .says) μ
-    unfolding with-lines Memory
+    unfolding with-lines
     finish-agrees ws (goes c) p μ r e = passed p _ idle _ μ e (λ y. tt) (λ y. refl)
     finish-agrees ws (stores a v c) p μ r e = passed p _ (dirty (a / 8) (set ws (a % 8) v)) _ μ e
-        (λ y. (
-          length-set ws (a % 8) v ∙ ap length (r .0) ∙ proper .2 (a / 8) (r .1),
-          (λ j. read-set (λ i. i < 4294967296) ws (a % 8) v 0 j (r .2) (omega arith) (rw (r .0) (proper .3 (a / 8) j))),
-        ))
-        (λ y. refl)
+        (λ y. line-set ws (a % 8) v (rw (r .0) (memory-line m (a / 8) proper (r .1))) (r .2)) (λ y. refl)
     finish-agrees ws (says x c) p μ r e = passed p _ idle _ μ e (λ y. tt) (λ y. refl)
     finish-agrees ws stops p μ r e = passed p _ idle _ μ e (λ y. tt) (λ y. refl)
 
     finish-keeps : (ws : List ℕ) (d : Did Registers) (p : Phase) (μ : Manual toy-isa) → Right m ws d → core-of cs t .on ≡ true →
-        toy-isa .one (length m) (core-of cs t .cpu) (word m) ≡ d → μ ≡ now → After toy-isa Agrees (finishes ws d (chip-at cs n t p)) m [] s μ
+        toy-isa .one (length m) (core-of cs t .cpu) (word m) ≡ d → μ ≡ settled → After toy-isa Agrees (finishes ws d (chip-at cs n t p)) m [] s μ
+    unfolding core
     finish-keeps ws d p μ r o e z = finish-agrees ws d p _ r
-        (ap (events toy-isa μ) (finish-did ws d (chip-at cs n t p)) ∙ ap (λ (ν : Manual toy-isa). events toy-isa ν (step t ∷ [])) z ∙ did-step d o e ∙ after-same ws d p r)
+        (ap (events toy-isa μ) (finish-did ws d (chip-at cs n t p)) ∙ ap (λ (ν : Manual toy-isa). events toy-isa ν (step t ∷ [])) z ∙ did-step toy-isa settled t d o e ∙ after-same ws d p r)
 
   act : (p : Phase) (μ : Manual toy-isa) → Agrees (chip-at cs n t p) m (row p (core-of cs t)) s μ → After toy-isa Agrees (acts-at p (chip-at cs n t p)) m (row p (core-of cs t)) s μ
   unfolding with-lines events
@@ -283,7 +253,7 @@ module _ (cs : List (Core toy-isa)) (n t : ℕ) (m : List (List ℕ)) (s : List 
     size = length-set m a ws ∙ g .size;
     four = g .four;
     turns = g .turns;
-    proper = memory-set m a ws (g .proper) (g .fits .0) (g .fits .1);
+    proper = memory-set m a ws (g .proper) (g .fits);
     fits = tt;
     waiting = refl;
   }

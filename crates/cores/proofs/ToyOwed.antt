@@ -1,18 +1,16 @@
 -- The toy chip pays what a chip owes, and so it keeps all eight promises.
 use mathlib.Core.Path.{_≡_, refl, sym, ap, subst, _∙_}
-use mathlib.Core.Bool.{Bool, true, false, _&&_, false≢true}
-use mathlib.Core.List.{List, [], _∷_, _++_}
-use mathlib.Core.Logic.{_⊎_, inl, inr}
-use Prim.Native.Nat.{ℕ, zero, suc, _+_, _-_, _<_, _≤_}
+use mathlib.Core.Bool.{Bool, true, false, false≢true}
+use mathlib.Core.List.{List}
+use Prim.Native.Nat.{ℕ, _-_, _<_, _≤_}
 use native.Mathlib.Omega.{arith}
-use lib.Dec.{eqb, ltb}
+use lib.Dec.{eqb}
 use lib.ListN.{length}
-use Rattle.cores.specs.Machines.{pick, said-by, Core, Manual, core}
-use Rattle.cores.specs.Board.{Out, Board, Choice, handed, kept, board-after}
-use Rattle.cores.specs.Promise.{Memory, once, Promises}
+use Rattle.cores.specs.Machines.{said-by, Core, Manual, core}
+use Rattle.cores.specs.Board.{Board, handed, kept, board-after}
+use Rattle.cores.specs.Promise.{once, Promises}
 use Rattle.cores.specs.Owed.{board-of, Kept, Faithful, Bounded, Drains, By-turns, Owed}
-use Rattle.cores.specs.Loop.{each}
-use Rattle.cores.specs.Toy.{toy-isa, Phase, idle, waits, holds, dirty, State, core-of, mine, line, received, gives, may, attends, acts-at, acts, toy-cycle, toy-chip}
+use Rattle.cores.specs.Toy.{toy-isa, Phase, idle, waits, holds, dirty, State, core-of, mine, line, received, gives, may, acts-at, acts, toy-cycle, toy-chip}
 use Rattle.cores.proofs.Basics.{choose}
 use Rattle.cores.proofs.Promises.{promises}
 use Rattle.cores.proofs.ToyKeeps.{flushed, row, Fits, Agrees, chip-at, starts, cycle-keeps}

@@ -1,21 +1,21 @@
 -- The turns of the toy chip end: each cycle passes the turn, after an instruction or from a core that is off, or brings its end nearer.
-use mathlib.Core.Path.{_≡_, refl, sym, ap, subst, _∙_}
-use mathlib.Core.Bool.{Bool, true, false}
+use mathlib.Core.Path.{_≡_, refl, sym, ap, subst}
+use mathlib.Core.Bool.{Bool, false}
 use mathlib.Core.List.{List, [], _∷_, _++_}
 use mathlib.Core.Logic.{_≢_, _⊎_, inl, inr}
-use Prim.Native.Nat.{ℕ, zero, suc, _+_, _-_, _*_, _<_, _≤_, _%_}
+use Prim.Native.Nat.{ℕ, zero, suc, _+_, _*_, _<_, _≤_}
 use native.Mathlib.Omega.{arith}
 use lib.Dec.{eqb, ltb}
 use lib.ListN.{length, getD, length-set}
 use Rattle.rv32.specs.Did.{Did, goes, stores, says, stops}
-use Rattle.cores.specs.Machines.{pick, Event, step, steps, Core, Manual, core}
+use Rattle.cores.specs.Machines.{Event, step, steps, Core}
 use Rattle.cores.specs.Board.{Out, due, later, asked, Steady, steady-cycle}
-use Rattle.cores.specs.Loop.{Step, each}
-use Rattle.cores.specs.Owed.{following, lines, Timely, board-of, steady-did}
-use Rattle.cores.specs.Toy.{Registers, does, toy-isa, Phase, idle, waits, holds, dirty, State, core-of, mine, line, received, gives, may, entered, attends, finishes, requests, skips, acts-at, acts, toy-cycle, toy-chip}
-use Rattle.cores.proofs.Basics.{choose, by-test, same, differ, append-nil}
+use Rattle.cores.specs.Loop.{each}
+use Rattle.cores.specs.Owed.{following, lines, Timely, steady-did}
+use Rattle.cores.specs.Toy.{Registers, toy-isa, Phase, idle, waits, holds, dirty, State, core-of, mine, line, received, gives, may, entered, attends, finishes, acts-at, acts, toy-chip}
+use Rattle.cores.proofs.Basics.{choose, by-test, differ}
 use Rattle.cores.proofs.Loop.{each-same}
-use Rattle.cores.proofs.ToyKeeps.{Agrees, row, chip-at, finish-did, may-on, entered-core}
+use Rattle.cores.proofs.ToyKeeps.{row, chip-at, finish-did, may-on, entered-core}
 use Rattle.cores.proofs.ToyEvents.{looped, cycle-steps}
 
 -- how many cycles after the next the first line of a row comes

@@ -1,6 +1,6 @@
 -- The board around a chip: memory, the lines that are waited for, and what the chip puts out, cycle by cycle.
 -- Assumes nothing: these are definitions.
-use mathlib.Core.Bool.{Bool, true, false, _||_}
+use mathlib.Core.Bool.{Bool, false, _||_}
 use mathlib.Core.List.{List, [], _∷_, _++_}
 use Prim.Native.Nat.{ℕ, zero, suc, _-_}
 use lib.Dec.{eqb}

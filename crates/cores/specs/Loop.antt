@@ -1,6 +1,6 @@
 -- A cycle as small steps, one after another, and one for each core.
 -- Assumes nothing: these are definitions.
-use mathlib.Core.List.{List, [], _∷_, _++_}
+use mathlib.Core.List.{[], _++_}
 use Prim.Native.Nat.{ℕ, zero, suc}
 use Rattle.cores.specs.Board.{Out}
 

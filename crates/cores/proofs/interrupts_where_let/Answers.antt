@@ -1,3 +1,4 @@
+-- The toy chip keeps this promise, since it pays what a chip owes.
 use Rattle.cores.proofs.ToyOwed.{toy-promises}
 use Rattle.cores.proofs.interrupts_where_let.Needs as need
 

@@ -1,3 +1,4 @@
+-- The run, computed.
 use mathlib.Core.Path.{refl}
 use Rattle.cores.specs.Machines.{fresh-cores}
 use Rattle.cores.specs.Board.{with-lines, among, handed, kept, board-after, cycles, powered}
