@@ -11,3 +11,4 @@ pub mod ToyKeeps
 pub mod ToyEvents
 pub mod ToyTurns
 pub mod ToyOwed
+pub mod Programs

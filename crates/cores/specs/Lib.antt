@@ -6,5 +6,7 @@ pub mod Promise
 pub mod Put
 pub mod Loop
 pub mod Owed
+pub mod Rv32
+pub mod Programs
 pub mod Toy
 pub mod Runs

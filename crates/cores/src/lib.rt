@@ -1,5 +1,6 @@
 // Machines that take turns at one memory, the board around a chip, what a chip promises, and what it owes for that.
 // A theorem over every chip cannot stand on a function; its instance for a small chip can, so that what a chip owes is known to be payable.
+ghost use Rattle.cores.specs.Programs.{Programs-say};
 ghost use Rattle.cores.specs.Promise.{All-go-on, Clean-after, Few, One-each, Same-said, Taken, When-raised, Where-let};
 ghost use Rattle.cores.specs.Runs.{Toy-runs};
 ghost use Rattle.cores.specs.Toy.{toy-chip, toy-isa};
@@ -49,4 +50,9 @@ pub fn memory_clean()
 // One run of the toy chip, computed: it asks for a line and waits, says a word, stores one, writes it back, takes an interrupt, and stops.
 pub fn toy_runs()
     ensures { λ _. ⌜ Toy-runs ⌝ }
+{}
+
+// What the machines say that run the small programs of the table, with interrupts only where they are let.
+pub fn programs_say()
+    ensures { λ _. ⌜ Programs-say ⌝ }
 {}
