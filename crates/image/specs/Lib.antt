@@ -1,0 +1,3 @@
+-- The definitions of memories, choices and refusals as bytes.
+pub mod Refusals
+pub mod Memory
