@@ -2,14 +2,16 @@
 -- Assumes nothing: these are definitions.
 use mathlib.Core.Bool.{Bool, true, false, cond, not, _&&_, _||_}
 use mathlib.Core.List.{List, [], _∷_, _++_}
-use Prim.Native.Nat.{ℕ, _+_, _*_, _/_, _%_}
+use mathlib.Core.Path.{_≡_}
+use Prim.Native.Nat.{ℕ, _+_, _*_, _≤_}
 use lib.Dec.{eqb, leb, ltb}
-use lib.ListN.{length, getD}
+use lib.ListN.{length, getD, drop}
 use Rattle.std.specs.declared.result.Result.{Result}
 use Rattle.std.specs.declared.result.Result.the-variants.{Ok, Err}
 use Rattle.image.specs.declared.memory.Header.{Header}
+use Rattle.image.specs.declared.refusal.LentSlice.the-variants.{Board}
 use Rattle.image.specs.declared.refusal.Refusal.{Refusal}
-use Rattle.image.specs.declared.refusal.Refusal.the-variants.{MemoryEnds, MemoryGoesOn, NoMagic, Cores, Lines}
+use Rattle.image.specs.declared.refusal.Refusal.the-variants.{MemoryEnds, MemoryGoesOn, NoMagic, Cores, Lines, Lent}
 
 -- a word of four bytes
 abbrev pub word : ℕ → ℕ → ℕ → ℕ → ℕ
@@ -46,3 +48,37 @@ header-rule bytes =
     (cond (ltb (length bytes) (size (word-at bytes 5))) (Err (MemoryEnds (length bytes)))
     (cond (ltb (size (word-at bytes 5)) (length bytes)) (Err (MemoryGoesOn (size (word-at bytes 5))))
     (Ok (record { cores = getD bytes 4 0; lines = word-at bytes 5 }))))))))
+
+-- the same, shut: other crates need not look inside
+unfoldable pub header-of : List ℕ → Result Header Refusal
+header-of bytes = header-rule bytes
+
+-- what is known of bytes that are taken
+pub record Fits (bytes : List ℕ) (h : Header) : Type 0 where
+  pub some-core : 1 ≤ h .cores
+  pub few-cores : h .cores ≤ 4
+  pub some-line : 1 ≤ h .lines
+  pub few-lines : h .lines ≤ 65536
+  pub long : length bytes ≡ size (h .lines)
+
+-- bytes as words; fewer than four bytes at the end are none
+unfoldable pub words-of : List ℕ → List ℕ
+words-of [] = []
+words-of (a ∷ []) = []
+words-of (a ∷ b ∷ []) = []
+words-of (a ∷ b ∷ c ∷ []) = []
+words-of (a ∷ b ∷ c ∷ d ∷ rest) = word a b c d ∷ words-of rest
+
+-- a step that may be refused, and then another
+abbrev pub then : {A B : Type 0} → Result A Refusal → (A → Result B Refusal) → Result B Refusal
+then (Ok a) f = f a
+then (Err e) f = Err e
+
+-- words of memory are lent for the lines
+abbrev pub lent-for : ℕ → Header → Result Header Refusal
+lent-for words h = cond (ltb words (8 * h .lines)) (Err (Lent Board)) (Ok h)
+
+-- the memory's words come first, and words past them stay; a refusal changes none
+abbrev pub loaded : Result Header Refusal → List ℕ → List ℕ → List ℕ
+loaded (Ok h) bytes was = words-of (drop 9 bytes) ++ drop (8 * h .lines) was
+loaded (Err e) bytes was = was

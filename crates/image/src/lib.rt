@@ -3,6 +3,7 @@ mod memory;
 mod refusal;
 
 pub use memory::Header;
+pub use memory::load;
 pub use memory::read_header;
 pub use refusal::ChoiceFault;
 pub use refusal::LentSlice;
