@@ -1,2 +1,4 @@
 -- Lemmas of the proofs.
 pub mod Words
+pub mod Scan
+pub mod Cycles

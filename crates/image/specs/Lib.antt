@@ -1,3 +1,4 @@
 -- The definitions of memories, choices and refusals as bytes.
 pub mod Refusals
 pub mod Memory
+pub mod Choices

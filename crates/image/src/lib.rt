@@ -1,4 +1,5 @@
 // Memories and choices as bytes: what they say, and how they are refused.
+mod choices;
 mod memory;
 mod refusal;
 
