@@ -39,7 +39,7 @@ cut : (r n : ℕ) (bytes : List ℕ) → length bytes < n → cycles-of (r ∷ n
 unfolding cycles-from cycles-of
 cut r n bytes h = cond-true _ _ _ (lt-ltb (length bytes) n h)
 
-whole : (r n : ℕ) (bytes : List ℕ) → n ≤ length bytes → cycles-of (r ∷ n ∷ bytes) ≡ record { raised = r; given = take n bytes } ∷ cycles-from n bytes
+pub whole : (r n : ℕ) (bytes : List ℕ) → n ≤ length bytes → cycles-of (r ∷ n ∷ bytes) ≡ record { raised = r; given = take n bytes } ∷ cycles-from n bytes
 unfolding cycles-from cycles-of
 whole r n bytes h = cond-false _ _ _ (le-ltb (length bytes) n h)
 

@@ -2,3 +2,4 @@
 pub mod Words
 pub mod Scan
 pub mod Cycles
+pub mod Sound

@@ -1,7 +1,7 @@
 -- Choices as bytes: for each cycle one byte whose bit k says that the interrupt line of core k is up, one byte that says how many waiting lines are given, and their places, strictly rising.
 -- Assumes nothing: these are definitions.
 use mathlib.Core.Bool.{Bool, true, false, cond, not}
-use mathlib.Core.List.{List, [], _∷_, _++_}
+use mathlib.Core.List.{List, [], _∷_}
 use mathlib.Core.Path.{_≡_}
 use Prim.Native.Nat.{ℕ, zero, suc, _+_, _-_, _/_, _^_, _<_, _≤_}
 use lib.Dec.{eqb, leb, ltb}
@@ -51,7 +51,8 @@ beyond cores byte = not (eqb (byte / 2 ^ cores) 0)
 
 -- so many places are still to come in a record, each at least so large; after the last a record is over
 abbrev pub places : ℕ → ℕ → Expected
-places left least = cond (eqb left 0) Raised (Place left least)
+places zero least = Raised
+places (suc left) least = Place (suc left) least
 
 abbrev pub reading : Expected → ℕ → Reader
 reading e n = record { expected = e; begun = n }
@@ -83,21 +84,3 @@ choices-of cores bytes = then (scan cores (reading Raised 0) 0 bytes) (λ n. Ok 
 -- how many cycles
 abbrev pub counted : Result (List Cycle) Refusal → Result ℕ Refusal
 counted r = then r (λ cs. Ok (length cs))
-
--- a cycle written out as bytes, and cycles one after the other
-abbrev pub written : Cycle → List ℕ
-written c = c .raised ∷ length (c .given) ∷ c .given
-
-unfoldable pub written-out : List Cycle → List ℕ
-written-out [] = []
-written-out (c ∷ cs) = written c ++ written-out cs
-
--- places that rise strictly, the first at least so large
-abbrev pub Rising : ℕ → List ℕ → Type 0
-Rising least [] = Unit {0}
-Rising least (p ∷ ps) = (least ≤ p) × Rising (p + 1) ps
-
--- no interrupt line from the number of cores on is up, and the places rise
-abbrev pub Proper : ℕ → List Cycle → Type 0
-Proper cores [] = Unit {0}
-Proper cores (c ∷ cs) = (c .raised < 2 ^ cores) × Rising 0 (c .given) × Proper cores cs

@@ -2,3 +2,4 @@
 pub mod Refusals
 pub mod Memory
 pub mod Choices
+pub mod ChoiceLaws
