@@ -57,7 +57,7 @@ cycles-more bytes given at raised end s =
     let n : end - (at + 2) ≡ getD bytes (at + 1) 0 = omega (arith, s .last) in
     let w : getD bytes (at + 1) 0 ≤ length (drop (at + 2) bytes) = simp length-drop (omega (arith, s .last, s .within)) in
     let rest : cycles-from (getD bytes (at + 1) 0) (drop (at + 2) bytes) ≡ cycles-of (drop end bytes) =
-        skipped _ _ ∙ ap cycles-of (drop-drop (getD bytes (at + 1) 0) (at + 2) bytes) ∙ ap (λ j. cycles-of (drop j bytes)) (sym (s .last)) in
+    skipped _ _ ∙ ap cycles-of (drop-drop (getD bytes (at + 1) 0) (at + 2) bytes) ∙ ap (λ j. cycles-of (drop j bytes)) (sym (s .last)) in
     record { cycles = rw (two bytes at h, s .part, n, s .first, ← rest) (whole _ _ _ w); later = omega (arith, s .last); within = s .within }
 
 -- a clause on an option made weaker

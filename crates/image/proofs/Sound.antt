@@ -10,6 +10,7 @@ use lib.ListN.{length, take}
 use lib.Pow.{pow-pos}
 use Rattle.std.proofs.shelf.Lists.{length-take-le, length-append, take-at, drop-at}
 use Rattle.std.proofs.shelf.Tests.{leb-false, ltb-false, le-ltb, lt-leb, eqb-true, not-false}
+use Rattle.std.specs.Results.{Cases}
 use Rattle.std.specs.declared.result.Result.{Result}
 use Rattle.std.specs.declared.result.Result.the-variants.{Ok, Err}
 use Rattle.image.specs.Refusals.{number, place}
@@ -57,7 +58,7 @@ begin cores begun n b c bytes l r =
       all = rw (e, k) (ap (λ (bs : List ℕ). b ∷ c ∷ bs) (r .all));
       proper = rw e (l, r .rising, r .proper);
       count = rw e (omega (arith, r .count));
-      few = r .few
+      few = r .few;
     }
 
 -- a place is put in front
@@ -70,7 +71,7 @@ place-more cores left least begun n p bytes h r =
       all = ap (λ (bs : List ℕ). p ∷ bs) (r .all);
       proper = r .proper;
       count = r .count;
-      few = r .few
+      few = r .few;
     }
 
 abbrev Known : ℕ → Expected → ℕ → ℕ → List ℕ → Type 0
@@ -103,10 +104,10 @@ sound cores (Place left least) begun at n [] l h = let z : _≡_ {A = ℕ} 0 1 =
 sound cores (Place zero least) begun at n (p ∷ bytes) l h = λ none. absurd (omega arith)
 sound cores (Place (suc left) least) begun at n (p ∷ bytes) l h =
     λ some.
-      let q = passes (ltb p least) _ _ _ n h in
-      let e : suc left - 1 ≡ left = omega arith in
-      let k : scan cores (reading (places left (p + 1)) begun) (at + 1) bytes ≡ Ok n = ap (λ j. scan cores (reading (places j (p + 1)) begun) (at + 1) bytes) (sym e) ∙ q .1 in
-      place-more cores left least begun n p bytes (ltb-false _ _ (q .0)) (at-places cores left (p + 1) begun n bytes (sound cores (places left (p + 1)) begun (at + 1) n bytes l k))
+    let q = passes (ltb p least) _ _ _ n h in
+    let e : suc left - 1 ≡ left = omega arith in
+    let k : scan cores (reading (places left (p + 1)) begun) (at + 1) bytes ≡ Ok n = ap (λ j. scan cores (reading (places j (p + 1)) begun) (at + 1) bytes) (sym e) ∙ q .1 in
+    place-more cores left least begun n p bytes (ltb-false _ _ (q .0)) (at-places cores left (p + 1) begun n bytes (sound cores (places left (p + 1)) begun (at + 1) n bytes l k))
 
 start : (cores n : ℕ) (bytes : List ℕ) → scan cores (reading Raised 0) 0 bytes ≡ Ok n → Rest cores 0 0 0 n bytes
 start cores n bytes h = sound cores Raised 0 0 n bytes (lit≤ tt) h
@@ -124,6 +125,12 @@ then-then (Err e) f g = refl
 pub scan-counts : (cores : ℕ) (bytes : List ℕ) → scan cores (reading Raised 0) 0 bytes ≡ counted (choices-of cores bytes)
 unfolding choices-of
 scan-counts cores bytes = same-count cores bytes _ refl ∙ sym (then-then (scan cores (reading Raised 0) 0 bytes) _ _)
+
+pub scan-cases : (cores : ℕ) (bytes : List ℕ) (r : Result ℕ Refusal) → r ≡ scan cores (reading Raised 0) 0 bytes →
+    Cases r (λ n. choices-of cores bytes ≡ Ok (cycles-of bytes)) (λ e. choices-of cores bytes ≡ Err e)
+unfolding choices-of
+scan-cases cores bytes (Ok n) h = rw (← h)
+scan-cases cores bytes (Err e) h = rw (← h)
 
 -- what is taken
 at-ok : {A B : Type 0} (r : Result A Refusal) (f : A → B) (b : B) → then r (λ a. Ok (f a)) ≡ Ok b → (a : A) × (r ≡ Ok a) × (f a ≡ b)
@@ -238,7 +245,7 @@ first-step cores s at b bytes e (Ok t) is ih h =
       stands = omega (arith, f .stands);
       within = omega (arith, f .within);
       before = before-more cores s t at b (f .k) bytes is (f .before);
-      after = λ more l. rw is (f .after more (omega arith))
+      after = λ more l. rw is (f .after more (omega arith));
     }
 first-step cores s at b bytes e (Err d) is ih h =
     let same : d ≡ e = cc in
@@ -249,7 +256,7 @@ first-step cores s at b bytes e (Err d) is ih h =
       stands = p .1 ∙ omega arith;
       within = omega arith;
       before = before-none cores s at (b ∷ bytes);
-      after = λ more l. rw is (ap (λ (x : Refusal). Err x) same)
+      after = λ more l. rw is (ap (λ (x : Refusal). Err x) same);
     }
 
 first : (cores : ℕ) (s : Reader) (at : ℕ) (bytes : List ℕ) (e : Refusal) → scan cores s at bytes ≡ Err e → First cores s at bytes e
@@ -272,8 +279,9 @@ unfolding choices-of
 first-fault cores bytes e h =
     let f = first cores (reading Raised 0) 0 bytes e (at-err (scan cores (reading Raised 0) 0 bytes) (λ n. cycles-of bytes) e h) in
     let k : place e ≡ f .k = f .stands ∙ zero-add _ in
-    let m : place e + 1 ≡ suc (f .k) = omega (arith, k) in
-    (f .third,
-     omega (arith, k, f .within),
-     λ j l. unfinished _ j _ (subst (λ (i : ℕ). Open i (scan cores (reading Raised 0) 0 (take j bytes))) (zero-add j) (f .before j (omega (arith, k)))),
-     λ more l. rw m (ap (λ (r : Result ℕ Refusal). then r (λ n. Ok (cycles-of (take (suc (f .k)) bytes ++ more)))) (f .after more (omega (arith, k)))))
+    let m : place e + 1 ≡ suc (f .k) = omega (arith, k) in (
+      f .third,
+      omega (arith, k, f .within),
+      λ j l. unfinished _ j _ (subst (λ (i : ℕ). Open i (scan cores (reading Raised 0) 0 (take j bytes))) (zero-add j) (f .before j (omega (arith, k)))),
+      λ more l. rw m (ap (λ (r : Result ℕ Refusal). then r (λ n. Ok (cycles-of (take (suc (f .k)) bytes ++ more)))) (f .after more (omega (arith, k)))),
+    )

@@ -3,3 +3,4 @@ pub mod Refusals
 pub mod Memory
 pub mod Choices
 pub mod ChoiceLaws
+pub mod Check

@@ -4,6 +4,8 @@ ghost use mathlib.Core.List.{[]};
 ghost use Prim.Native.Nat.{_+_, _<_};
 ghost use lib.ListN.{length, getD, drop};
 ghost use Rattle.std.specs.Options.{Cases as BySome};
+ghost use Rattle.std.specs.Results.{Cases as ByOk};
+ghost use Rattle.std.specs.declared.result.Result.the-variants.{Ok, Err};
 ghost use Rattle.image.specs.Choices.{cycles-of, choices-of, counted, Read, Stands, beyond, places, reading, read, ended, scan};
 ghost use Rattle.image.specs.declared.choices.Expected.the-variants.{Raised};
 use crate::refusal::ChoiceFault;
@@ -154,7 +156,8 @@ pub fn cycle_at(bytes: &[u8], at: usize) -> Option<Record<'_>>
 
 // Tests choices for so many cores, and counts their cycles.
 pub fn count_cycles(bytes: &[u8], cores: usize) -> Result<u64, Refusal>
-    ensures { λ r. ⌜ r ≡ counted (choices-of cores (now (bytes .entry))) ⌝ }
+    ensures value { λ r. ⌜ r ≡ counted (choices-of cores (now (bytes .entry))) ⌝ }
+    ensures cases { λ r. ⌜ ByOk r (λ _. choices-of cores (now (bytes .entry)) ≡ Ok (cycles-of (now (bytes .entry)))) (λ e. choices-of cores (now (bytes .entry)) ≡ Err e) ⌝ }
 {
     scan(bytes, cores)
 }

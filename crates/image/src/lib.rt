@@ -1,8 +1,14 @@
 // Memories and choices as bytes: what they say, and how they are refused.
+mod accept;
 mod choices;
 mod memory;
 mod refusal;
 
+pub use accept::check;
+pub use accept::check_steady;
+pub use choices::Record;
+pub use choices::count_cycles;
+pub use choices::cycle_at;
 pub use memory::Header;
 pub use memory::load;
 pub use memory::read_header;
