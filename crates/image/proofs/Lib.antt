@@ -3,3 +3,4 @@ pub mod Words
 pub mod Scan
 pub mod Cycles
 pub mod Sound
+pub mod Front

@@ -2,5 +2,6 @@
 pub mod Refusals
 pub mod Memory
 pub mod Choices
+pub mod MemoryLaws
 pub mod ChoiceLaws
 pub mod Check

@@ -1,6 +1,7 @@
 // Memories and choices as bytes: what they say, and how they are refused.
 mod accept;
 mod choices;
+mod laws;
 mod memory;
 mod refusal;
 
@@ -9,6 +10,8 @@ pub use accept::check_steady;
 pub use choices::Record;
 pub use choices::count_cycles;
 pub use choices::cycle_at;
+pub use laws::choice_laws;
+pub use laws::memory_laws;
 pub use memory::Header;
 pub use memory::load;
 pub use memory::read_header;
