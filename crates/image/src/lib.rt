@@ -13,8 +13,15 @@ pub use choices::cycle_at;
 pub use laws::choice_laws;
 pub use laws::memory_laws;
 pub use memory::Header;
+pub use memory::HeaderDebug;
+pub use memory::HeaderPartialEq;
 pub use memory::load;
 pub use memory::read_header;
 pub use refusal::ChoiceFault;
 pub use refusal::LentSlice;
 pub use refusal::Refusal;
+pub use refusal::RefusalDebug;
+pub use refusal::RefusalPartialEq;
+
+#[cfg(test)]
+mod tests;
