@@ -14,8 +14,8 @@ use Rattle.std.proofs.shelf.Tests.{ltb-false, le-ltb, lt-leb, eqb-true, eq-eqb,
 use Rattle.std.proofs.shelf.Ways.{tells}
 use Rattle.std.specs.declared.result.Result.{Result}
 use Rattle.std.specs.declared.result.Result.the-variants.{Ok, Err}
-use Rattle.image.specs.Memory.{word, word-at, may-be, letters, outside, size, header-rule, header-of, Fits}
-use Rattle.image.specs.MemoryLaws.{word-bytes, image, Byte, All-images-are-taken, Only-images-are-taken, Faulty, Before, Judged, Lowest-fault-refuses}
+use Rattle.image.specs.Memory.{word, word-at, may-be, letters, outside, size, header-rule, header-of, Fits, word-bytes, words-of, bytes-of, image}
+use Rattle.image.specs.MemoryLaws.{Byte, Word, All-images-are-taken, Only-images-are-taken, Faulty, Before, Judged, Lowest-fault-refuses, Written-is-read}
 use Rattle.image.specs.Refusals.{number, place}
 use Rattle.image.specs.declared.memory.Header.{Header}
 use Rattle.image.specs.declared.refusal.Refusal.{Refusal}
@@ -229,3 +229,16 @@ module _ (bytes : List ℕ) where
 pub judged : Lowest-fault-refuses
 unfolding header-of
 judged bytes = judged-rule bytes
+
+bytes-length : (words : List ℕ) → length (bytes-of words) ≡ 4 * length words
+unfolding bytes-of
+bytes-length [] = refl
+bytes-length (w ∷ words) = let ih = bytes-length words in omega (arith, ih)
+
+words-again : (words : List ℕ) → Word words → words-of (bytes-of words) ≡ words
+unfolding bytes-of words-of
+words-again [] h = refl
+words-again (w ∷ words) h = rw (word-again w (h 0)) (ap (λ (ws : List ℕ). w ∷ ws) (words-again words (λ k. h (suc k))))
+
+pub written-read : Written-is-read
+written-read cores lines words a b c d e h = (all-taken cores lines (bytes-of words) a b c d (bytes-length words ∙ omega arith), words-again words h)

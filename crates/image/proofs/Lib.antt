@@ -4,3 +4,4 @@ pub mod Scan
 pub mod Cycles
 pub mod Sound
 pub mod Front
+pub mod Writes

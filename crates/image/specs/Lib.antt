@@ -5,3 +5,4 @@ pub mod Choices
 pub mod MemoryLaws
 pub mod ChoiceLaws
 pub mod Check
+pub mod Store

@@ -3,7 +3,8 @@
 use mathlib.Core.Bool.{Bool, true, false, cond, not, _&&_, _||_}
 use mathlib.Core.List.{List, [], _∷_, _++_}
 use mathlib.Core.Path.{_≡_}
-use Prim.Native.Nat.{ℕ, _+_, _*_, _≤_}
+use Prim.Native.Nat.{ℕ, _+_, _*_, _/_, _%_, _≤_}
+use lib.Chars.{codes}
 use lib.Dec.{eqb, leb, ltb}
 use lib.ListN.{length, getD, drop}
 use Rattle.std.specs.declared.result.Result.{Result}
@@ -68,6 +69,18 @@ words-of (a ∷ []) = []
 words-of (a ∷ b ∷ []) = []
 words-of (a ∷ b ∷ c ∷ []) = []
 words-of (a ∷ b ∷ c ∷ d ∷ rest) = word a b c d ∷ words-of rest
+
+-- a word as four bytes, and words one after the other
+abbrev pub word-bytes : ℕ → List ℕ
+word-bytes x = x % 256 ∷ x / 256 % 256 ∷ x / 65536 % 256 ∷ x / 16777216 % 256 ∷ []
+
+unfoldable pub bytes-of : List ℕ → List ℕ
+bytes-of [] = []
+bytes-of (w ∷ words) = word-bytes w ++ bytes-of words
+
+-- a memory written out: so many cores, so many lines, and the bytes of these lines
+abbrev pub image : ℕ → ℕ → List ℕ → List ℕ
+image cores lines rest = codes "CHIP" ++ (cores ∷ word-bytes lines) ++ rest
 
 -- a step that may be refused, and then another
 abbrev pub then : {A B : Type 0} → Result A Refusal → (A → Result B Refusal) → Result B Refusal

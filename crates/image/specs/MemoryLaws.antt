@@ -1,30 +1,25 @@
 -- What holds of memories as bytes: the format written out, and which fault refuses. Each law is a statement; its proof stands behind `memory_laws`.
 -- Assumes nothing: these are definitions and statements.
 use mathlib.Core.Bool.{true, false}
-use mathlib.Core.List.{List, [], _∷_, _++_}
+use mathlib.Core.List.{List}
 use mathlib.Core.Logic.{_⊎_}
 use mathlib.Core.Path.{_≡_}
-use Prim.Native.Nat.{ℕ, _*_, _/_, _%_, _<_, _≤_}
-use lib.Chars.{codes}
+use Prim.Native.Nat.{ℕ, _*_, _<_, _≤_}
 use lib.ListN.{length, getD, drop}
 use Rattle.std.specs.declared.result.Result.{Result}
 use Rattle.std.specs.declared.result.Result.the-variants.{Ok, Err}
-use Rattle.image.specs.Memory.{letters, outside, size, word-at, header-of, Fits, words-of}
+use Rattle.image.specs.Memory.{letters, outside, size, word-at, header-of, Fits, words-of, bytes-of, image}
 use Rattle.image.specs.Refusals.{number, place}
 use Rattle.image.specs.declared.memory.Header.{Header}
 use Rattle.image.specs.declared.refusal.Refusal.{Refusal}
 use Rattle.image.specs.declared.refusal.Refusal.the-variants.{MemoryEnds, MemoryGoesOn, NoMagic, Cores, Lines, Choices, Lent}
 
--- a word as four bytes
-abbrev pub word-bytes : ℕ → List ℕ
-word-bytes x = x % 256 ∷ x / 256 % 256 ∷ x / 65536 % 256 ∷ x / 16777216 % 256 ∷ []
-
--- a memory written out: so many cores, so many lines, and the bytes of these lines
-abbrev pub image : ℕ → ℕ → List ℕ → List ℕ
-image cores lines rest = codes "CHIP" ++ (cores ∷ word-bytes lines) ++ rest
-
+-- each is a byte; each is a word of 32 bits
 abbrev pub Byte : List ℕ → Type 0
 Byte bytes = (k : ℕ) → getD bytes k 0 < 256
+
+abbrev pub Word : List ℕ → Type 0
+Word words = (k : ℕ) → getD words k 0 < 4294967296
 
 -- every memory that fits is taken
 abbrev pub All-images-are-taken : Type 0
@@ -58,3 +53,9 @@ Judged bytes (Err e) = Faulty bytes e × (place e ≤ length bytes) × ((f : Ref
 
 abbrev pub Lowest-fault-refuses : Type 0
 Lowest-fault-refuses = (bytes : List ℕ) → Judged bytes (header-of bytes)
+
+-- a memory that is written out is read as it was
+abbrev pub Written-is-read : Type 0
+Written-is-read =
+    (cores lines : ℕ) (words : List ℕ) → 1 ≤ cores → cores ≤ 4 → 1 ≤ lines → lines ≤ 65536 → length words ≡ 8 * lines → Word words →
+    (header-of (image cores lines (bytes-of words)) ≡ Ok (record { cores = cores; lines = lines })) × (words-of (drop 9 (image cores lines (bytes-of words))) ≡ words)

@@ -4,6 +4,7 @@ mod choices;
 mod laws;
 mod memory;
 mod refusal;
+mod write;
 
 pub use accept::check;
 pub use accept::check_steady;
@@ -22,6 +23,8 @@ pub use refusal::LentSlice;
 pub use refusal::Refusal;
 pub use refusal::RefusalDebug;
 pub use refusal::RefusalPartialEq;
+pub use write::StoreFault;
+pub use write::store;
 
 #[cfg(test)]
 mod tests;

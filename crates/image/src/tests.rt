@@ -28,6 +28,15 @@ fn a_memory_is_loaded() -> Result<(), Fail> {
 }
 
 #[test]
+fn a_memory_is_stored() -> Result<(), Fail> {
+    let mut bytes = [7; 42];
+    let memory = [0x04030201, 0, 0, 0, 0, 0, 0, 0];
+    check_eq(store(2, &memory, &mut bytes).ok(), Some(41))?;
+    check_eq(&bytes[0..41], &one_line())?;
+    check_eq(bytes[41], 7)
+}
+
+#[test]
 fn a_front_is_refused() -> Result<(), Fail> {
     check_eq(refused(read_header(b"CH")), (1, 2))?;
     check_eq(refused(read_header(b"CHOP")), (2, 0))?;
