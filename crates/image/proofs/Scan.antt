@@ -7,7 +7,7 @@ use lib.ListN.{length, getD, drop}
 use Rattle.std.proofs.shelf.Lists.{at-drop-more, at-drop-all}
 use Rattle.std.specs.declared.result.Result.{Result}
 use Rattle.std.specs.declared.result.Result.the-variants.{Ok, Err}
-use Rattle.image.specs.Memory.{then}
+use Rattle.image.specs.Refusals.{then}
 use Rattle.image.specs.Choices.{read, ended, scan}
 use Rattle.image.specs.declared.choices.Reader.{Reader}
 use Rattle.image.specs.declared.refusal.Refusal.{Refusal}

@@ -13,8 +13,7 @@ use Rattle.std.proofs.shelf.Tests.{leb-false, ltb-false, le-ltb, lt-leb, eqb-tr
 use Rattle.std.specs.Results.{Cases}
 use Rattle.std.specs.declared.result.Result.{Result}
 use Rattle.std.specs.declared.result.Result.the-variants.{Ok, Err}
-use Rattle.image.specs.Refusals.{number, place}
-use Rattle.image.specs.Memory.{then}
+use Rattle.image.specs.Refusals.{number, place, then}
 use Rattle.image.specs.Choices.{Cycle, cycles-from, cycles-of, beyond, places, reading, read, ended, scan, choices-of, counted}
 use Rattle.image.specs.ChoiceLaws.{written-out, Rising, Proper, Unfinished, All-written-choices-are-taken, Only-written-choices-are-taken, Fault-is-first}
 use Rattle.image.specs.declared.choices.Expected.{Expected}

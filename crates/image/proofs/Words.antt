@@ -5,7 +5,8 @@ use Prim.Native.Nat.{ℕ, zero, suc, _+_, _*_, _-_, _/_, _<_, _≤_}
 use native.Mathlib.Omega.{arith}
 use lib.ListN.{length, getD, set, take, drop}
 use Rattle.std.proofs.shelf.Lists.{drop-more, take-more-set, drop-set-lt, take-append-drop, drop-drop, length-drop, append-nil, take-rest}
-use Rattle.image.specs.Memory.{word, word-at, words-of}
+use Rattle.image.specs.Memory.{word-at, words-of}
+use Rattle.image.specs.MemoryLaws.{Words-by-place}
 
 pub words-short : (bytes : List ℕ) → length bytes < 4 → words-of bytes ≡ []
 unfolding words-of
@@ -55,3 +56,29 @@ pub words-of-memory : (bytes m was : List ℕ) (lines : ℕ) → length bytes �
 words-of-memory bytes m was lines e h =
     let n : (length bytes - 9) / 4 ≡ 8 * lines = omega arith in
     h ∙ simp (take-rest, length-drop, n)
+
+-- how many words there are, and each of them
+pub words-length : (bytes : List ℕ) → length (words-of bytes) ≡ length bytes / 4
+unfolding words-of
+words-length [] = refl
+words-length (a ∷ []) = refl
+words-length (a ∷ b ∷ []) = refl
+words-length (a ∷ b ∷ c ∷ []) = refl
+words-length (a ∷ b ∷ c ∷ d ∷ rest) = let ih = words-length rest in omega arith
+
+pub words-at : (bytes : List ℕ) (i : ℕ) → 4 * i + 4 ≤ length bytes → getD (words-of bytes) i 0 ≡ word-at bytes (4 * i)
+unfolding words-of
+words-at [] i h = absurd (omega arith)
+words-at (a ∷ []) i h = absurd (omega arith)
+words-at (a ∷ b ∷ []) i h = absurd (omega arith)
+words-at (a ∷ b ∷ c ∷ []) i h = absurd (omega arith)
+words-at (a ∷ b ∷ c ∷ d ∷ rest) zero h = refl
+words-at (a ∷ b ∷ c ∷ d ∷ rest) (suc i) h =
+    let e : 4 * suc i ≡ suc (suc (suc (suc (4 * i)))) = omega arith in
+    let e1 : 4 * suc i + 1 ≡ suc (suc (suc (suc (4 * i + 1)))) = omega arith in
+    let e2 : 4 * suc i + 2 ≡ suc (suc (suc (suc (4 * i + 2)))) = omega arith in
+    let e3 : 4 * suc i + 3 ≡ suc (suc (suc (suc (4 * i + 3)))) = omega arith in
+    rw (e1, e2, e3, e) (words-at rest i (omega arith))
+
+pub words-by-place : Words-by-place
+words-by-place bytes = (words-length bytes, words-at bytes)

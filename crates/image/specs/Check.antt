@@ -7,7 +7,8 @@ use Prim.Native.Nat.{ℕ, _+_, _*_, _≤_}
 use lib.Dec.{ltb}
 use Rattle.std.specs.declared.result.Result.{Result}
 use Rattle.std.specs.declared.result.Result.the-variants.{Ok, Err}
-use Rattle.image.specs.Memory.{then, header-of, Fits}
+use Rattle.image.specs.Refusals.{then}
+use Rattle.image.specs.Memory.{header-of, Fits}
 use Rattle.image.specs.Choices.{choices-of, cycles-of}
 use Rattle.image.specs.declared.memory.Header.{Header}
 use Rattle.image.specs.declared.refusal.LentSlice.the-variants.{Board, Chip, Said}

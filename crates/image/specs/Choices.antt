@@ -8,7 +8,7 @@ use lib.Dec.{eqb, leb, ltb}
 use lib.ListN.{length, getD, take, drop}
 use Rattle.std.specs.declared.result.Result.{Result}
 use Rattle.std.specs.declared.result.Result.the-variants.{Ok, Err}
-use Rattle.image.specs.Memory.{then}
+use Rattle.image.specs.Refusals.{then}
 use Rattle.image.specs.declared.choices.Expected.{Expected}
 use Rattle.image.specs.declared.choices.Expected.the-variants.{Raised, Count, Place}
 use Rattle.image.specs.declared.choices.Reader.{Reader}

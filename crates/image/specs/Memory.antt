@@ -82,11 +82,6 @@ bytes-of (w ∷ words) = word-bytes w ++ bytes-of words
 abbrev pub image : ℕ → ℕ → List ℕ → List ℕ
 image cores lines rest = codes "CHIP" ++ (cores ∷ word-bytes lines) ++ rest
 
--- a step that may be refused, and then another
-abbrev pub then : {A B : Type 0} → Result A Refusal → (A → Result B Refusal) → Result B Refusal
-then (Ok a) f = f a
-then (Err e) f = Err e
-
 -- words of memory are lent for the lines
 abbrev pub lent-for : ℕ → Header → Result Header Refusal
 lent-for words h = cond (ltb words (8 * h .lines)) (Err (Lent Board)) (Ok h)

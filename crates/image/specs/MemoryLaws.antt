@@ -4,7 +4,7 @@ use mathlib.Core.Bool.{true, false}
 use mathlib.Core.List.{List}
 use mathlib.Core.Logic.{_⊎_}
 use mathlib.Core.Path.{_≡_}
-use Prim.Native.Nat.{ℕ, _*_, _<_, _≤_}
+use Prim.Native.Nat.{ℕ, _+_, _*_, _/_, _<_, _≤_}
 use lib.ListN.{length, getD, drop}
 use Rattle.std.specs.declared.result.Result.{Result}
 use Rattle.std.specs.declared.result.Result.the-variants.{Ok, Err}
@@ -59,3 +59,8 @@ abbrev pub Written-is-read : Type 0
 Written-is-read =
     (cores lines : ℕ) (words : List ℕ) → 1 ≤ cores → cores ≤ 4 → 1 ≤ lines → lines ≤ 65536 → length words ≡ 8 * lines → Word words →
     (header-of (image cores lines (bytes-of words)) ≡ Ok (record { cores = cores; lines = lines })) × (words-of (drop 9 (image cores lines (bytes-of words))) ≡ words)
+
+-- four bytes are a word, and which
+abbrev pub Words-by-place : Type 0
+Words-by-place =
+    (bytes : List ℕ) → (length (words-of bytes) ≡ length bytes / 4) × ((i : ℕ) → 4 * i + 4 ≤ length bytes → getD (words-of bytes) i 0 ≡ word-at bytes (4 * i))

@@ -1,6 +1,8 @@
--- The number and the place of each refusal.
+-- The number and the place of each refusal, and steps that may be refused.
 -- Assumes nothing: these are definitions.
 use Prim.Native.Nat.{ℕ}
+use Rattle.std.specs.declared.result.Result.{Result}
+use Rattle.std.specs.declared.result.Result.the-variants.{Ok, Err}
 use Rattle.image.specs.declared.refusal.ChoiceFault.{ChoiceFault}
 use Rattle.image.specs.declared.refusal.LentSlice.{LentSlice}
 use Rattle.image.specs.declared.refusal.LentSlice.the-variants.{Board, Chip, Said}
@@ -32,3 +34,8 @@ place Cores = 4
 place Lines = 5
 place (Choices fault at) = at
 place (Lent slice) = slice-place slice
+
+-- a step that may be refused, and then another
+abbrev pub then : {A B : Type 0} → Result A Refusal → (A → Result B Refusal) → Result B Refusal
+then (Ok a) f = f a
+then (Err e) f = Err e

@@ -1,6 +1,6 @@
 // Laws of the formats, each proved for all bytes. The functions do nothing: their contracts are the laws.
 ghost use Rattle.image.specs.ChoiceLaws.{All-written-choices-are-taken, Only-written-choices-are-taken, Fault-is-first};
-ghost use Rattle.image.specs.MemoryLaws.{All-images-are-taken, Only-images-are-taken, Lowest-fault-refuses, Written-is-read};
+ghost use Rattle.image.specs.MemoryLaws.{All-images-are-taken, Only-images-are-taken, Lowest-fault-refuses, Written-is-read, Words-by-place};
 
 // A memory is taken if and only if it has the format; else the lowest fault refuses it. One that is written out is read as it was.
 pub fn memory_laws()
@@ -8,6 +8,7 @@ pub fn memory_laws()
     ensures only { λ _. ⌜ Only-images-are-taken ⌝ }
     ensures lowest { λ _. ⌜ Lowest-fault-refuses ⌝ }
     ensures again { λ _. ⌜ Written-is-read ⌝ }
+    ensures words { λ _. ⌜ Words-by-place ⌝ }
 {}
 
 // Choices are taken if and only if they have the format; else the first byte in fault refuses them.

@@ -4,7 +4,8 @@ ghost use mathlib.Core.List.{_++_};
 ghost use Prim.Native.Nat.{ℕ, _+_, _*_, _/_, _≤_};
 ghost use lib.ListN.{length, drop};
 ghost use Rattle.std.specs.Vec.{made};
-ghost use Rattle.image.specs.Memory.{may-be, letters, word-at, header-rule, header-of, Fits, words-of, then, lent-for, loaded};
+ghost use Rattle.image.specs.Memory.{may-be, letters, word-at, header-rule, header-of, Fits, words-of, lent-for, loaded};
+ghost use Rattle.image.specs.Refusals.{then};
 use crate::refusal::LentSlice;
 use crate::refusal::Refusal;
 
