@@ -12,10 +12,11 @@ use Rattle.image.specs.declared.refusal.ChoiceFault.the-variants.{CutShort}
 use Rattle.image.specs.declared.refusal.Refusal.{Refusal}
 use Rattle.image.specs.declared.refusal.Refusal.the-variants.{Choices}
 
--- a cycle written out as bytes, and cycles one after the other
+-- a cycle written out as bytes
 abbrev pub written : Cycle → List ℕ
 written c = c .raised ∷ length (c .given) ∷ c .given
 
+-- cycles written out, one after the other
 unfoldable pub written-out : List Cycle → List ℕ
 written-out [] = []
 written-out (c ∷ cs) = written c ++ written-out cs

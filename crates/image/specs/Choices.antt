@@ -29,6 +29,7 @@ cycles-from zero (r ∷ []) = []
 cycles-from zero (r ∷ n ∷ bytes) = cond (ltb (length bytes) n) [] (record { raised = r; given = take n bytes } ∷ cycles-from n bytes)
 cycles-from (suc k) (b ∷ bytes) = cycles-from k bytes
 
+-- all cycles of the bytes
 unfoldable pub cycles-of : List ℕ → List Cycle
 cycles-of bytes = cycles-from 0 bytes
 
@@ -49,11 +50,12 @@ pub record Stands (bytes : List ℕ) (at raised : ℕ) (given : List ℕ) (end :
 abbrev pub beyond : ℕ → ℕ → Bool
 beyond cores byte = not (eqb (byte / 2 ^ cores) 0)
 
--- so many places are still to come in a record, each at least so large; after the last a record is over
+-- so many places are still to come in a record, the next at least so large; after the last a record is over
 abbrev pub places : ℕ → ℕ → Expected
 places zero least = Raised
 places (suc left) least = Place (suc left) least
 
+-- what is expected next, after so many cycles have begun
 abbrev pub reading : Expected → ℕ → Reader
 reading e n = record { expected = e; begun = n }
 

@@ -70,10 +70,11 @@ words-of (a ∷ b ∷ []) = []
 words-of (a ∷ b ∷ c ∷ []) = []
 words-of (a ∷ b ∷ c ∷ d ∷ rest) = word a b c d ∷ words-of rest
 
--- a word as four bytes, and words one after the other
+-- a word as four bytes
 abbrev pub word-bytes : ℕ → List ℕ
 word-bytes x = x % 256 ∷ x / 256 % 256 ∷ x / 65536 % 256 ∷ x / 16777216 % 256 ∷ []
 
+-- words as bytes, one after the other
 unfoldable pub bytes-of : List ℕ → List ℕ
 bytes-of [] = []
 bytes-of (w ∷ words) = word-bytes w ++ bytes-of words

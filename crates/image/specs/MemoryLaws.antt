@@ -14,10 +14,11 @@ use Rattle.image.specs.declared.memory.Header.{Header}
 use Rattle.image.specs.declared.refusal.Refusal.{Refusal}
 use Rattle.image.specs.declared.refusal.Refusal.the-variants.{MemoryEnds, MemoryGoesOn, NoMagic, Cores, Lines, Choices, Lent}
 
--- each is a byte; each is a word of 32 bits
+-- each is a byte
 abbrev pub Byte : List ℕ → Type 0
 Byte bytes = (k : ℕ) → getD bytes k 0 < 256
 
+-- each is a word of 32 bits
 abbrev pub Word : List ℕ → Type 0
 Word words = (k : ℕ) → getD words k 0 < 4294967296
 
@@ -51,6 +52,7 @@ abbrev pub Judged : List ℕ → Result Header Refusal → Type 0
 Judged bytes (Ok h) = (f : Refusal) → Faulty bytes f → ⊥
 Judged bytes (Err e) = Faulty bytes e × (place e ≤ length bytes) × ((f : Refusal) → Faulty bytes f → Before e f)
 
+-- so are all bytes
 abbrev pub Lowest-fault-refuses : Type 0
 Lowest-fault-refuses = (bytes : List ℕ) → Judged bytes (header-of bytes)
 

@@ -36,7 +36,7 @@ fn beyond(cores: usize, byte: u8) -> bool
     cores < 8 && byte >> cores != 0
 }
 
-// So many places are still to come, each at least so large.
+// So many places are still to come, the next at least so large.
 fn places(left: u8, least: u16) -> Expected
     ensures { λ r. ⌜ r ≡ places left least ⌝ }
 {
