@@ -3,7 +3,7 @@ use mathlib.Core.Bool.{Bool, true, false, cond, not}
 use mathlib.Core.List.{List, [], _∷_, _++_}
 use mathlib.Core.Path.{_≡_, refl, sym, ap, subst, _∙_}
 use Prim.Native.Nat.{ℕ, zero, suc, _+_, _-_, _*_, _/_, _^_, _<_, _≤_}
-use native.Mathlib.Nat.{zero-add, div-eq-of-lt, div-lt-iff-lt-mul}
+use native.Mathlib.Nat.{zero-add, div-lt-iff-lt-mul}
 use native.Mathlib.Omega.{arith}
 use lib.Dec.{eqb, leb, ltb, lit≤}
 use lib.ListN.{length, take}
@@ -22,6 +22,7 @@ use Rattle.image.specs.declared.choices.Reader.{Reader}
 use Rattle.image.specs.declared.refusal.ChoiceFault.the-variants.{CutShort}
 use Rattle.image.specs.declared.refusal.Refusal.{Refusal}
 use Rattle.image.specs.declared.refusal.Refusal.the-variants.{Choices}
+use Rattle.image.proofs.Bits.{not-beyond}
 use Rattle.image.proofs.Cycles.{whole, skipped}
 
 -- a test that refuses was not met
@@ -154,15 +155,12 @@ given-read cores begun at least (p ∷ given) rest r =
     let t : ltb p least ≡ false = le-ltb p least (r .0) in
     rw (t, e) (given-read cores begun (at + 1) (p + 1) given rest (r .1) ∙ ap (λ j. scan cores (reading Raised begun) j rest) (omega arith))
 
-cores-within : (cores b : ℕ) → b < 2 ^ cores → beyond cores b ≡ false
-cores-within cores b h = let e : b / 2 ^ cores ≡ 0 = div-eq-of-lt h in rw e
-
 written-read : (cores begun at : ℕ) (cs : List Cycle) → Proper cores cs → begun + length cs ≤ 4294967296 → scan cores (reading Raised begun) at (written-out cs) ≡ Ok (begun + length cs)
 unfolding scan written-out
 written-read cores begun at [] h l = ap (λ (k : ℕ). Ok k) (omega arith)
 written-read cores begun at (c ∷ cs) h l =
     let t : leb 4294967296 begun ≡ false = lt-leb 4294967296 begun (omega arith) in
-    let u : beyond cores (c .raised) ≡ false = cores-within cores (c .raised) (h .0) in
+    let u : beyond cores (c .raised) ≡ false = not-beyond cores (c .raised) (h .0) in
     let g = given-read cores (begun + 1) (at + 1 + 1) 0 (c .given) (written-out cs) (h .1) in
     let ih = written-read cores (begun + 1) (at + 1 + 1 + length (c .given)) cs (h .2) (omega arith) in
     rw (t, u) (g ∙ ih ∙ ap (λ (k : ℕ). Ok k) (omega arith))

@@ -1,12 +1,13 @@
 -- What holds of choices as bytes: the format written out, and what it is to be the first byte in fault. Each law is a statement; its proof stands behind `choice_laws`.
 -- Assumes nothing: these are definitions and statements.
+use mathlib.Core.Bool.{false}
 use mathlib.Core.List.{List, [], _∷_, _++_}
 use mathlib.Core.Path.{_≡_}
 use Prim.Native.Nat.{ℕ, _+_, _^_, _<_, _≤_}
 use lib.ListN.{length, take}
 use Rattle.std.specs.declared.result.Result.{Result}
 use Rattle.std.specs.declared.result.Result.the-variants.{Ok, Err}
-use Rattle.image.specs.Choices.{Cycle, choices-of}
+use Rattle.image.specs.Choices.{Cycle, up, choices-of}
 use Rattle.image.specs.Refusals.{number, place}
 use Rattle.image.specs.declared.refusal.ChoiceFault.the-variants.{CutShort}
 use Rattle.image.specs.declared.refusal.Refusal.{Refusal}
@@ -39,6 +40,10 @@ All-written-choices-are-taken = (cores : ℕ) (cs : List Cycle) → Proper cores
 abbrev pub Only-written-choices-are-taken : Type 0
 Only-written-choices-are-taken =
     (cores : ℕ) (bytes : List ℕ) (cs : List Cycle) → choices-of cores bytes ≡ Ok cs → (bytes ≡ written-out cs) × Proper cores cs × (length cs ≤ 4294967296)
+
+-- and then no core that is not there has its interrupt line up
+abbrev pub Others-are-down : Type 0
+Others-are-down = (cores raised k : ℕ) → raised < 2 ^ cores → cores ≤ k → up raised k ≡ false
 
 -- nothing is wrong with so many bytes but that more may have to come
 abbrev pub Unfinished : ℕ → Result (List Cycle) Refusal → Type 0

@@ -3,7 +3,7 @@
 use mathlib.Core.Bool.{Bool, true, false, cond, not}
 use mathlib.Core.List.{List, [], _∷_}
 use mathlib.Core.Path.{_≡_}
-use Prim.Native.Nat.{ℕ, zero, suc, _+_, _-_, _/_, _^_, _<_, _≤_}
+use Prim.Native.Nat.{ℕ, zero, suc, _+_, _-_, _/_, _%_, _^_, _<_, _≤_}
 use lib.Dec.{eqb, leb, ltb}
 use lib.ListN.{length, getD, take, drop}
 use Rattle.std.specs.declared.result.Result.{Result}
@@ -21,6 +21,10 @@ use Rattle.image.specs.declared.refusal.Refusal.the-variants.{Choices}
 pub record Cycle : Type 0 where
   pub raised : ℕ
   pub given : List ℕ
+
+-- the interrupt line of core k is up: bit k of the byte is set
+abbrev pub up : ℕ → ℕ → Bool
+up raised k = eqb (raised / 2 ^ k % 2) 1
 
 -- the bytes' cycles, after so many bytes that are passed over; a record that is cut short is none
 unfoldable pub cycles-from : ℕ → List ℕ → List Cycle

@@ -6,7 +6,7 @@ ghost use lib.ListN.{length, getD, drop};
 ghost use Rattle.std.specs.Options.{Cases as BySome};
 ghost use Rattle.std.specs.Results.{Cases as ByOk};
 ghost use Rattle.std.specs.declared.result.Result.the-variants.{Ok, Err};
-ghost use Rattle.image.specs.Choices.{cycles-of, choices-of, counted, Read, Stands, beyond, places, reading, read, ended, scan};
+ghost use Rattle.image.specs.Choices.{up, cycles-of, choices-of, counted, Read, Stands, beyond, places, reading, read, ended, scan};
 ghost use Rattle.image.specs.declared.choices.Expected.the-variants.{Raised};
 use crate::refusal::ChoiceFault;
 use crate::refusal::Refusal;
@@ -34,6 +34,13 @@ fn beyond(cores: usize, byte: u8) -> bool
     ensures { λ r. ⌜ r ≡ beyond cores byte ⌝ }
 {
     cores < 8 && byte >> cores != 0
+}
+
+// Whether the interrupt line of a core is up.
+pub fn is_up(raised: u8, core: usize) -> bool
+    ensures { λ r. ⌜ r ≡ up raised core ⌝ }
+{
+    core < 8 && (raised >> core) % 2 == 1
 }
 
 // So many places are still to come, the next at least so large.

@@ -11,6 +11,7 @@ pub use accept::check_steady;
 pub use choices::Record;
 pub use choices::count_cycles;
 pub use choices::cycle_at;
+pub use choices::is_up;
 pub use laws::choice_laws;
 pub use laws::memory_laws;
 pub use memory::Header;

@@ -59,6 +59,10 @@ fn choices_are_read() -> Result<(), Fail> {
     let first = cycle_at(&bytes, 0).ok_or("no first")?;
     check_eq(first.given, &[0, 3])?;
     check_eq((first.raised, first.end), (1, 4))?;
+    check_eq(
+        (is_up(first.raised, 0), is_up(first.raised, 1)),
+        (true, false),
+    )?;
     let second = cycle_at(&bytes, first.end).ok_or("no second")?;
     check_eq(second.given, &[])?;
     check_eq((second.raised, second.end), (2, 6))?;
