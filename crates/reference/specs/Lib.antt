@@ -1,2 +1,3 @@
 -- How the machines on a lent memory are read, and what an event comes to.
 pub mod Read
+pub mod Script

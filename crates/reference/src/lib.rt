@@ -1,3 +1,4 @@
 // The manual's machines as a program: cores that take turns at a lent memory.
 pub mod machines;
 pub mod run;
+pub mod script;
