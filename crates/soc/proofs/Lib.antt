@@ -1,0 +1,2 @@
+-- The proofs: each small step keeps the chip in agreement with the manual's machines, and the turns end.
+pub mod Runs
