@@ -1,2 +1,5 @@
 -- The proofs: each small step keeps the chip in agreement with the manual's machines, and the turns end.
 pub mod Runs
+pub mod Lines
+pub mod Keeps
+pub mod Events
