@@ -3,3 +3,7 @@ pub mod Runs
 pub mod Lines
 pub mod Keeps
 pub mod Events
+pub mod Rank
+pub mod Turns
+pub mod Rv
+pub mod Owed
