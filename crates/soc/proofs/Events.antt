@@ -15,9 +15,9 @@ use Rattle.cores.specs.Loop.{each}
 use Rattle.cores.specs.Owed.{Allowed}
 use Rattle.cores.proofs.Basics.{by-test, choose, same, differ}
 use Rattle.cores.proofs.Machines.{steps-append, interrupts-append}
-use Rattle.cores.proofs.Loop.{Lets, then-lets, each-lets, before, behind, own-row, none-row, each-same}
+use Rattle.cores.proofs.Loop.{Lets, then-lets, each-lets, before, behind, own-row, none-row}
 use Rattle.soc.specs.Kind.{Kind, Laws}
-use Rattle.soc.specs.Soc.{State, lacks, received, takes, take-interrupt, finish, skip, try, act-while, act, cycle}
+use Rattle.soc.specs.Soc.{State, lacks, received, takes, take-interrupt, try, act-while, act, cycle}
 use Rattle.soc.proofs.Keeps.{Man, Cpu, Agrees, receive-agrees, interrupts-keep, loop-keeps, cpu-in, on-in, on-there}
 
 apart : (j k : ℕ) → j ≢ k → eqb j k ≡ false

@@ -5,24 +5,23 @@ use mathlib.Core.List.{List, [], _∷_, _++_}
 use Prim.Native.Nat.{ℕ, _+_, _<_, _≤_, _/_}
 use native.Mathlib.Omega.{arith}
 use lib.Dec.{eqb, ltb}
-use lib.ListN.{length, getD, set, length-set}
+use lib.ListN.{length, getD, length-set}
 use Rattle.std.specs.declared.option.Option.{Option}
 use Rattle.std.specs.declared.option.Option.the-variants.{Some, None}
 use Rattle.rv32.specs.Did.{Did, goes, stores, says, stops}
-use Rattle.cores.specs.Machines.{pick, step, interrupt, word, with-word, Core, Manual, core, after, events, begins}
+use Rattle.cores.specs.Machines.{interrupt, word, with-word, Core, Manual, core, after, events, begins}
 use Rattle.cores.specs.Board.{Out, with-lines, among, handed, kept}
 use Rattle.cores.specs.Promise.{Memory}
 use Rattle.cores.specs.Put.{put}
 use Rattle.cores.specs.Loop.{silent, each}
-use Rattle.cores.specs.declared.port.Line.{Line}
 use Rattle.cores.proofs.Basics.{by-test, choose, same, less, not-less, append-nil, set-put, with-lines-length}
 use Rattle.cores.proofs.Machines.{did-step, did-interrupt, after-core, after-many, fresh-many, fresh-core}
 use Rattle.cores.proofs.Machines as machines
 use Rattle.cores.proofs.Loop.{After as After-of, Keeps as Keeps-of, stay-keeps as stay-keeps-of, then-keeps, each-keeps}
-use Rattle.soc.specs.Kind.{Within, Kind, Laws, Leaves, needs}
-use Rattle.soc.specs.Buffers.{line-in, lies-in, first}
+use Rattle.soc.specs.Kind.{needed, Within, Kind, Laws, Leaves}
+use Rattle.soc.specs.Buffers.{line-in, lies-in}
 use Rattle.soc.specs.Soc.{following, cpu-after, on-after, written, spoken, State, fresh, mine, seen, code-word, data-word, code-lack, data-lack, lacks, placed, received, takes, entered, take-interrupt, finish, ask, skip, try, act-while, act, cycle}
-use Rattle.soc.proofs.Lines.{Good, row, Below, not-none, line-good, data-here, code-agree, data-agree, first-none, below-lacks, memory-store, memory-words}
+use Rattle.soc.proofs.Lines.{Good, row, Below, line-good, data-here, code-agree, data-agree, first-none, below-lacks, memory-store, memory-words}
 
 following-small : (n t : ℕ) → t < n → following n t < n
 following-small n t l = grind arith
@@ -265,7 +264,7 @@ module _ (κ : Kind) where
       }
 
       -- the word that an instruction needs lies in memory
-      needs-within : (t : Option ℕ) (read : ℕ → ℕ) → Within (h .size) (Rattle.soc.specs.Kind.needed t (κ .touch (h .size) (mine κ h)) read)
+      needs-within : (t : Option ℕ) (read : ℕ → ℕ) → Within (h .size) (needed t (κ .touch (h .size) (mine κ h)) read)
       needs-within None read = tt
       needs-within (Some x) read = laws .touch-within (h .size) (mine κ h) (read x)
 

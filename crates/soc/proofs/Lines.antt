@@ -1,17 +1,16 @@
 -- The two buffers: lines that are memory's, and what is read from them, asked for, and stored.
-use mathlib.Core.Path.{_≡_, refl, sym, ap, subst, _∙_}
+use mathlib.Core.Path.{_≡_, refl, sym, ap, _∙_}
 use mathlib.Core.Bool.{Bool, true, false, false≢true}
 use mathlib.Core.List.{List, [], _∷_}
-use Prim.Native.Nat.{ℕ, _*_, _^_, _<_, _/_, _%_}
+use Prim.Native.Nat.{ℕ, _^_, _<_, _/_, _%_}
 use native.Mathlib.Omega.{arith}
-use lib.Dec.{eqb}
 use lib.ListN.{length, getD, set}
 use Rattle.std.specs.declared.option.Option.{Option}
 use Rattle.std.specs.declared.option.Option.the-variants.{Some, None}
 use Rattle.cores.specs.Machines.{pick, word, with-word}
 use Rattle.cores.specs.Promise.{Memory}
 use Rattle.cores.specs.declared.port.Line.{Line}
-use Rattle.cores.proofs.Basics.{by-test, choose, same}
+use Rattle.cores.proofs.Basics.{choose, same}
 use Rattle.cores.proofs.Memory.{memory-line, line-set, memory-set}
 use Rattle.soc.specs.Kind.{Agree, Within}
 use Rattle.soc.specs.Buffers.{holds, words-of, line-in, word-in, lacks-code, lacks-data, first}

@@ -1,5 +1,5 @@
 -- The chip pays what a chip owes, for every kind of core that keeps the laws; and so it keeps all eight promises.
-use mathlib.Core.Path.{_≡_, refl, sym, ap, subst, _∙_}
+use mathlib.Core.Path.{_≡_, refl, sym, ap, _∙_}
 use mathlib.Core.Bool.{Bool, true, false}
 use mathlib.Core.List.{List, [], _∷_, _++_}
 use mathlib.Core.Logic.{_⊎_}
@@ -22,9 +22,9 @@ use Rattle.soc.specs.Kind.{Kind, Laws}
 use Rattle.soc.specs.Rv.{rv}
 use Rattle.soc.specs.Soc.{following, State, received, act, cycle, chip}
 use Rattle.soc.proofs.Lines.{row, Below}
-use Rattle.soc.proofs.Keeps.{Man, Cor, Agrees, on-in, starts, cycle-keeps}
+use Rattle.soc.proofs.Keeps.{Man, Cor, Agrees, starts, cycle-keeps}
 use Rattle.soc.proofs.Events.{given, looped, loop-asks, cycle-steps, cycle-single, cycle-lowered, cycle-takes, cycle-allowed}
-use Rattle.soc.proofs.Turns.{rank, short, Moves, moves}
+use Rattle.soc.proofs.Turns.{rank, short, moves}
 use Rattle.soc.proofs.Rv.{rv-laws}
 
 -- whose turn is next, as it is owed

@@ -1,7 +1,6 @@
 -- How many lines the core whose turn it is may still ask for: one less when it asks, and no line that comes and no interrupt makes it more.
 use mathlib.Core.Path.{_≡_, refl, sym, ap, subst, _∙_}
 use mathlib.Core.Bool.{Bool, true, false, false≢true}
-use mathlib.Core.List.{List}
 use Prim.Native.Nat.{ℕ, suc, _+_, _<_, _≤_, _/_}
 use native.Mathlib.Omega.{arith}
 use lib.Dec.{eqb}

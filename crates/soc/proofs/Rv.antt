@@ -1,11 +1,10 @@
 -- RV32I cores keep the laws of a kind.
 use mathlib.Core.Path.{_≡_, refl, sym, ap, subst, _∙_}
-use mathlib.Core.Bool.{Bool}
 use Prim.Native.Nat.{ℕ, _^_, _<_}
 use native.Mathlib.Omega.{arith}
 use Rattle.std.specs.declared.option.Option.{Option}
 use Rattle.std.specs.declared.option.Option.the-variants.{Some, None}
-use Rattle.rv32.specs.Did.{Did, goes, stores, says, stops}
+use Rattle.rv32.specs.Did.{stores, stops}
 use Rattle.rv32.specs.Decode.{decode}
 use Rattle.rv32.specs.Execute.{did, execute, fetch, need, one}
 use Rattle.rv32.specs.Laws.{Supplied, Within as Within-words, Stored-at, Well-formed, Well-formed-effect}

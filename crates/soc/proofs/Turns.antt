@@ -16,7 +16,7 @@ use Rattle.cores.specs.Loop.{each}
 use Rattle.cores.specs.Owed.{lines, Timely}
 use Rattle.cores.proofs.Basics.{choose}
 use Rattle.soc.specs.Kind.{Kind, Laws}
-use Rattle.soc.specs.Soc.{following, State, lacks, placed, received, take-interrupt, ask, try, act-while, act}
+use Rattle.soc.specs.Soc.{following, State, lacks, placed, take-interrupt, ask, try, act-while, act}
 use Rattle.soc.proofs.Lines.{row, not-none}
 use Rattle.soc.proofs.Events.{loop-rest, looped}
 use Rattle.soc.proofs.Rank.{still, still-four, still-placed, still-asks, still-loop}

@@ -20,10 +20,11 @@ abbrev pub words-of : Option Line → List ℕ
 words-of None = replicate 8 0
 words-of (Some l) = l .words
 
--- line a and word x as the two buffers have them: from the first if it holds the line, else from the second
+-- the words of line a as the two buffers have them: from the first if it holds the line, else from the second
 abbrev pub line-in : Option Line → Option Line → ℕ → List ℕ
 line-in fetched loaded a = pick (holds fetched a) (words-of fetched) (words-of loaded)
 
+-- and word number x
 abbrev pub word-in : Option Line → Option Line → ℕ → ℕ
 word-in fetched loaded x = getD (line-in fetched loaded (x / 8)) (x % 8) 0
 

@@ -8,18 +8,19 @@ use Rattle.std.specs.declared.option.Option.the-variants.{Some, None}
 use Rattle.rv32.specs.Did.{Did, goes, stores, says, stops}
 use Rattle.cores.specs.Machines.{Isa}
 
--- a kind of core, with the word of memory that the next instruction is fetched from, by number, for a memory of so many lines; and the word that
--- the instruction needs besides, given the word fetched
+-- a kind of core; for a memory of so many lines, the number of the word that the next instruction is fetched from; and that of the word which the
+-- instruction needs besides, given the word fetched
 pub record Kind : Type 1 where
   pub isa : Isa
   pub looks : ℕ → isa .Cpu → Option ℕ
   pub touch : ℕ → isa .Cpu → ℕ → Option ℕ
 
--- the word that the next instruction needs besides its own, where `read` gives memory's words: none, if nothing is fetched
+-- the word that is needed, where `read` gives memory's words: none, if nothing is fetched
 abbrev pub needed : Option ℕ → (ℕ → Option ℕ) → (ℕ → ℕ) → Option ℕ
 needed None touch read = None
 needed (Some x) touch read = touch (read x)
 
+-- the word that the next instruction of a core needs besides its own
 abbrev pub needs : (κ : Kind) → ℕ → κ .isa .Cpu → (ℕ → ℕ) → Option ℕ
 needs κ n c read = needed (κ .looks n c) (κ .touch n c) read
 
@@ -47,10 +48,11 @@ pub record Laws (κ : Kind) : Type 1 where
       κ .isa .one n c read ≡ κ .isa .one n c other
   -- it stores to the word that it needs
   pub storing : (n : ℕ) (c : κ .isa .Cpu) (read : ℕ → ℕ) (y v : ℕ) (d : κ .isa .Cpu) → κ .isa .one n c read ≡ stores y v d → needs κ n c read ≡ Some y
-  -- both words lie in memory
+  -- the word that is fetched lies in memory
   pub looks-within : (n : ℕ) (c : κ .isa .Cpu) → Within n (κ .looks n c)
+  -- and so does the word that is needed
   pub touch-within : (n : ℕ) (c : κ .isa .Cpu) (word : ℕ) → Within n (κ .touch n c word)
-  -- registers are sound in new cores, and stay so
+  -- what holds of the registers of new cores, and is kept by interrupts and instructions, where memory has words of 32 bits
   pub Sound : κ .isa .Cpu → Type 0
   pub start-sound : (k : ℕ) → k < 4 → Sound (κ .isa .start k)
   pub enters-sound : (c : κ .isa .Cpu) → Sound c → Sound (κ .isa .enters c)

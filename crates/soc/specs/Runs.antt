@@ -20,13 +20,14 @@ abbrev pub slowly : ℕ → List Choice
 slowly zero = []
 slowly (suc n) = record { given = []; raised = λ k. false } ∷ record { given = 0 ∷ []; raised = λ k. false } ∷ slowly n
 
--- a program in a memory of eight lines, how many cores run it, the choices of the outside, and what is said (core and word)
+-- a program from address 0, how many cores run it, the choices of the outside, and what is said (core and word)
 pub record Run : Type 0 where
   pub words : List ℕ
   pub cores : ℕ
   pub choices : List Choice
   pub said : List (ℕ × ℕ)
 
+-- the runs: one that is cut short, and each program to its end
 abbrev pub table : List Run
 table =
     record { words = program-a; cores = 1; choices = giving false 5; said = [] }
@@ -38,10 +39,10 @@ table =
     ∷ record { words = program-g; cores = 1; choices = giving true 20; said = (0, 12) ∷ [] }
     ∷ []
 
--- what is said on the board in a run
-abbrev pub says-by : Run → List (ℕ × ℕ)
-says-by r = board (chip rv) (r .cores) (image 8 (r .words)) (r .choices) .said
+-- what is said on the board in a run, with a memory of so many lines
+abbrev pub says-by : ℕ → Run → List (ℕ × ℕ)
+says-by lines r = board (chip rv) (r .cores) (image lines (r .words)) (r .choices) .said
 
--- every run of the table says what stands beside it
-abbrev pub Programs-run : Type 0
-Programs-run = map says-by table ≡ map (λ r. r .said) table
+-- every run says what stands beside it
+abbrev pub Say : ℕ → List Run → Type 0
+Say lines runs = map (says-by lines) runs ≡ map (λ r. r .said) runs

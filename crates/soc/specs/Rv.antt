@@ -16,5 +16,6 @@ word-of Nothing = None
 word-of (Read a) = Some a
 word-of (Write a) = Some a
 
+-- RV32I: what is fetched is the word at pc, and what is needed depends on the instruction that it is
 abbrev pub rv : Kind
 rv = record { isa = rv32; looks = fetch; touch = λ n c word. word-of (need n c (decode word)) }

@@ -20,25 +20,28 @@ use Rattle.soc.specs.Buffers.{line-in, word-in, lies-in, lacks-code, lacks-dat
 abbrev pub following : ℕ → ℕ → ℕ
 following n t = pick (ltb (t + 1) n) (t + 1) 0
 
--- an instruction is over: the registers of its core, whether it goes on, the line that is written through to memory, and the word that core k says
+-- a core's registers after an instruction
 abbrev pub cpu-after : {Cpu : Type 0} → Cpu → Did Cpu → Cpu
 cpu-after c (goes d) = d
 cpu-after c (stores y v d) = d
 cpu-after c (says x d) = d
 cpu-after c stops = c
 
+-- whether it goes on
 abbrev pub on-after : {Cpu : Type 0} → Did Cpu → Bool
 on-after (goes d) = true
 on-after (stores y v d) = true
 on-after (says x d) = true
 on-after stops = false
 
+-- the line that is written through to memory, with the word that was stored
 abbrev pub written : {Cpu : Type 0} → Option Line → Option Line → Did Cpu → List (ℕ × List ℕ)
 written fetched loaded (goes d) = []
 written fetched loaded (stores y v d) = (y / 8, set (line-in fetched loaded (y / 8)) (y % 8) v) ∷ []
 written fetched loaded (says x d) = []
 written fetched loaded stops = []
 
+-- the word that core k has said
 abbrev pub spoken : {Cpu : Type 0} → ℕ → Did Cpu → List (ℕ × ℕ)
 spoken k (goes d) = []
 spoken k (stores y v d) = []
@@ -71,30 +74,35 @@ module _ (κ : Kind) where
     asked = None;
   }
 
-  -- the registers of the core whose turn it is; the word that it fetches, and the word that its instruction needs, by what the buffers have
+  -- the registers of the core whose turn it is
   abbrev pub mine : State → κ .isa .Cpu
   mine h = h .cpu (h .turn)
 
+  -- memory's words, as the buffers have them
   abbrev pub seen : State → ℕ → ℕ
   seen h = word-in (h .fetched) (h .loaded)
 
+  -- the word that its instruction is fetched from
   abbrev pub code-word : State → Option ℕ
   code-word h = κ .looks (h .size) (mine h)
 
+  -- the word that the instruction needs
   abbrev pub data-word : State → Option ℕ
   data-word h = needs κ (h .size) (mine h) (seen h)
 
-  -- the line that it lacks: that of its instruction, else that of its data
+  -- the line of its instruction, if that is lacked
   abbrev pub code-lack : State → Option ℕ
   code-lack h = lacks-code (code-word h) (h .fetched)
 
+  -- the line of its data, if that is lacked
   abbrev pub data-lack : State → Option ℕ
   data-lack h = lacks-data (data-word h) (h .fetched) (h .loaded)
 
+  -- the line to ask for
   abbrev pub lacks : State → Option ℕ
   lacks h = first (code-lack h) (data-lack h)
 
-  -- RECEIVE: a line comes, into the first buffer if pc lies in it, else into the second. Since one line at most is asked for, the first is all that come
+  -- a line comes: into the first buffer if it has the instruction's word, else into the second
   abbrev pub placed : Line → State → State
   placed l h = record {
     count = h .count;
@@ -107,17 +115,20 @@ module _ (κ : Kind) where
     asked = None;
   }
 
+  -- the first of the lines that come; no other comes, since no more than one is asked for
   abbrev pub received : List (ℕ × List ℕ) → State → State
   received [] h = h
   received (x ∷ xs) h = placed (record { number = x .0; words = x .1 }) h
 
+  -- RECEIVE: a line may come
   abbrev pub receive : List (ℕ × List ℕ) → Step State
   receive lines h = (received lines h, silent)
 
-  -- INTERRUPT: core k takes one if it goes, its line is up, and it lets them
+  -- whether core k takes an interrupt: it goes, its line is up, and it lets them
   abbrev pub takes : (ℕ → Bool) → ℕ → State → Bool
   takes up k h = h .on k && (up k && κ .isa .lets (h .cpu k))
 
+  -- core k has taken one
   abbrev pub entered : ℕ → State → State
   entered k h = record {
     count = h .count;
@@ -130,10 +141,11 @@ module _ (κ : Kind) where
     asked = h .asked;
   }
 
+  -- INTERRUPT: core k may take one
   abbrev pub take-interrupt : (ℕ → Bool) → ℕ → Step State
   take-interrupt up k h = pick (takes up k h) (entered k h, record { asks = []; writes = []; says = []; did = interrupt k ∷ [] }) (h, silent)
 
-  -- ACT: the core whose turn it is gets on. The turn passes, and the lines are dropped
+  -- the turn has passed, and both lines are dropped; registers and who goes are these
   abbrev pub passed : (ℕ → κ .isa .Cpu) → (ℕ → Bool) → State → State
   passed cpu on h = record {
     count = h .count;
@@ -146,7 +158,7 @@ module _ (κ : Kind) where
     asked = None;
   }
 
-  -- its instruction is done, the line that it stores to is written, and the turn passes
+  -- the instruction is done, a line that it stored to is written, and the turn passes
   abbrev pub finish : Did (κ .isa .Cpu) → Step State
   finish d h = (
     passed (put (h .cpu) (h .turn) (cpu-after (mine h) d)) (put (h .on) (h .turn) (on-after d)) h,
@@ -173,16 +185,17 @@ module _ (κ : Kind) where
   abbrev pub skip : Step State
   skip h = (passed (h .cpu) (h .on) h, silent)
 
-  -- by the line that is lacked
+  -- the line that is lacked is asked for; where none is, the instruction is done
   abbrev pub try : Option ℕ → Step State
   try None h = finish (κ .isa .one (h .size) (mine h) (seen h)) h
   try (Some a) h = ask a h
 
-  -- by the line that is asked for: while one is waited for nothing is done
+  -- nothing is done while a line is waited for
   abbrev pub act-while : Option ℕ → Step State
   act-while None h = pick (h .on (h .turn)) (try (lacks h) h) (skip h)
   act-while (Some a) h = (h, silent)
 
+  -- ACT: the core whose turn it is gets on
   abbrev pub act : Step State
   act h = act-while (h .asked) h
 
