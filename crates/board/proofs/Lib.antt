@@ -1,0 +1,2 @@
+-- Lemmas on rows, and on memory and the row in lent words.
+pub mod Rows

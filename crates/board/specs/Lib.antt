@@ -1,0 +1,2 @@
+-- The board in lent words.
+pub mod Rows

@@ -1,0 +1,25 @@
+-- The row of lines that wait, by value, as a list.
+-- Assumes nothing: these are definitions.
+use mathlib.Core.Bool.{Bool, true, _&&_}
+use mathlib.Core.List.{List, [], _∷_}
+use Prim.Native.Nat.{ℕ}
+use lib.Dec.{ltb}
+use lib.ListN.{take}
+use Rattle.board.specs.declared.row.Row.{Row}
+use Rattle.board.specs.declared.row.Waiting.{Waiting}
+
+-- those that wait, the oldest first
+abbrev pub items-of : Row → List Waiting
+items-of r = take (r .count) (r .items)
+
+-- the line of one that waits, alone and with the cycles after the next till it comes
+abbrev pub line-in : Waiting → ℕ
+line-in w = w .line
+
+abbrev pub pair-in : Waiting → ℕ × ℕ
+pair-in w = (w .line, w .left)
+
+-- whether each is one of memory's n lines
+unfoldable pub inside : ℕ → List ℕ → Bool
+inside n [] = true
+inside n (a ∷ rest) = ltb a n && inside n rest

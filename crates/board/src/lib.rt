@@ -1,0 +1,3 @@
+// The board around a chip, in lent words: memory, and the row of lines that wait.
+pub mod fault;
+pub mod row;
