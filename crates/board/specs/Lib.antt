@@ -1,2 +1,4 @@
 -- The board in lent words.
 pub mod Rows
+pub mod Layout
+pub mod Faults

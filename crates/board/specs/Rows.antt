@@ -5,6 +5,8 @@ use mathlib.Core.List.{List, [], _∷_}
 use Prim.Native.Nat.{ℕ}
 use lib.Dec.{ltb}
 use lib.ListN.{take}
+use Rattle.std.specs.declared.option.Option.{Option}
+use Rattle.std.specs.declared.option.Option.the-variants.{Some, None}
 use Rattle.board.specs.declared.row.Row.{Row}
 use Rattle.board.specs.declared.row.Waiting.{Waiting}
 
@@ -23,3 +25,8 @@ pair-in w = (w .line, w .left)
 unfoldable pub inside : ℕ → List ℕ → Bool
 inside n [] = true
 inside n (a ∷ rest) = ltb a n && inside n rest
+
+-- one asked for now, if any
+abbrev pub newly : ℕ → Option ℕ → List Waiting
+newly left None = []
+newly left (Some a) = record { line = a; left = left } ∷ []

@@ -1,3 +1,4 @@
 // The board around a chip, in lent words: memory, and the row of lines that wait.
 pub mod fault;
-pub mod row;
+mod layout;
+mod row;
