@@ -29,11 +29,9 @@ among-none i k ps h = at-drop-all (among i) ps k h
 
 -- a search for a line outside
 pub inside-more : (n k : ℕ) (xs : List ℕ) → k < length xs → inside n (drop k xs) ≡ (ltb (getD xs k 0) n && inside n (drop (k + 1) xs))
-unfolding inside
 inside-more n k xs h = at-drop-more (inside n) xs k 0 h
 
 pub inside-none : (n k : ℕ) (xs : List ℕ) → length xs ≤ k → inside n (drop k xs) ≡ true
-unfolding inside
 inside-none n k xs h = at-drop-all (inside n) xs k h
 
 -- the items of a row: how many, and one of them
@@ -45,17 +43,18 @@ item-line r i h l =
     let long : length (items-of r) ≡ r .count = length-take-le (r .count) (r .items) l in
     getD-map line-in (items-of r) i nobody 0 (omega arith) ∙ ap line-in (getD-take (r .count) (r .items) i nobody h)
 
--- a test that adds to a row or leaves it as it is, before a row and after it
-by-pick : {X : Type 0} (b : Bool) (f : List X → List X) → ((ys zs : List X) → f (ys ++ zs) ≡ f ys ++ zs) → (xs ys zs : List X) → xs ≡ ys ++ zs → pick b xs (f xs) ≡ pick b ys (f ys) ++ zs
-by-pick true f joins xs ys zs e = e
-by-pick false f joins xs ys zs e = ap f e ∙ joins ys zs
+-- of two ways to begin a row, which both leave its end alone, the one that is picked leaves it alone
+pub by-pick : {X : Type 0} (b : Bool) (f g : List X → List X) → ((ys zs : List X) → f (ys ++ zs) ≡ f ys ++ zs) → ((ys zs : List X) → g (ys ++ zs) ≡ g ys ++ zs) →
+    (xs ys zs : List X) → xs ≡ ys ++ zs → pick b (f xs) (g xs) ≡ pick b (f ys) (g ys) ++ zs
+by-pick true f g joins joined xs ys zs e = ap f e ∙ joins ys zs
+by-pick false f g joins joined xs ys zs e = ap g e ∙ joined ys zs
 
 -- what one line more at the end of a row adds to those that go on waiting
 kept-from : (gs : List ℕ) (i : ℕ) (xs : List ℕ) (a : ℕ) → kept gs i (xs ++ a ∷ []) ≡ kept gs i xs ++ pick (among (i + length xs) gs) [] (a ∷ [])
 unfolding kept
 kept-from gs i [] a = ap (λ j. pick (among j gs) [] (a ∷ [])) (omega arith)
 kept-from gs i (x ∷ xs) a =
-    by-pick (among i gs) (λ (ys : List ℕ). x ∷ ys) (λ ys zs. refl) _ _ _ (kept-from gs (suc i) xs a ∙ ap (λ j. kept gs (suc i) xs ++ pick (among j gs) [] (a ∷ [])) (omega arith))
+    by-pick (among i gs) (λ (ys : List ℕ). ys) (λ (ys : List ℕ). x ∷ ys) (λ ys zs. refl) (λ ys zs. refl) _ _ _ (kept-from gs (suc i) xs a ∙ ap (λ j. kept gs (suc i) xs ++ pick (among j gs) [] (a ∷ [])) (omega arith))
 
 pub kept-push : (gs xs : List ℕ) (a : ℕ) → kept gs 0 (xs ++ a ∷ []) ≡ kept gs 0 xs ++ pick (among (length xs) gs) [] (a ∷ [])
 kept-push gs xs a = kept-from gs 0 xs a ∙ ap (λ j. kept gs 0 xs ++ pick (among j gs) [] (a ∷ [])) (zero-add (length xs))
@@ -64,7 +63,7 @@ kept-push gs xs a = kept-from gs 0 xs a ∙ ap (λ j. kept gs 0 xs ++ pick (amon
 pub later-push : (ws : List (ℕ × ℕ)) (w : ℕ × ℕ) → later (ws ++ w ∷ []) ≡ later ws ++ pick (eqb (w .1) 0) [] ((w .0, w .1 - 1) ∷ [])
 unfolding later
 later-push [] w = refl
-later-push (v ∷ ws) w = by-pick (eqb (v .1) 0) (λ (ys : List (ℕ × ℕ)). (v .0, v .1 - 1) ∷ ys) (λ ys zs. refl) _ _ _ (later-push ws w)
+later-push (v ∷ ws) w = by-pick (eqb (v .1) 0) (λ (ys : List (ℕ × ℕ)). ys) (λ (ys : List (ℕ × ℕ)). (v .0, v .1 - 1) ∷ ys) (λ ys zs. refl) (λ ys zs. refl) _ _ _ (later-push ws w)
 
 -- a loop over a row: F of the places so far, to which each place adds what g says
 module _ {X Y Z : Type 0} (F : List Y → List Z) (g : ℕ → Y → List Z) (pushes : (ys : List Y) (y : Y) → F (ys ++ y ∷ []) ≡ F ys ++ g (length ys) y)

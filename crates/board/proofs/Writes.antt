@@ -34,3 +34,17 @@ module _ (m : List (List ℕ)) (xs : List (Option Line)) (k : ℕ) where
   pub writes-more : (l : Line) → k < length xs → getD xs k None ≡ Some l → with-lines (set m (l .number) (l .words)) (somes line-of (drop (k + 1) xs)) ≡ with-lines m (somes line-of (drop k xs))
   unfolding with-lines
   writes-more l h e = sym (ap (with-lines m) (somes-more line-of xs k (Some l) h e))
+
+-- a loop that looks for a line outside
+abbrev number : Line → ℕ
+number l = l .number
+
+module _ (n : ℕ) (xs : List (Option Line)) (k : ℕ) where
+  pub outside-none : length xs ≤ k → inside n (somes number (drop k xs)) ≡ true
+  outside-none h = ap (inside n) (somes-none number xs k h)
+
+  pub outside-skip : k < length xs → getD xs k None ≡ None → inside n (somes number (drop (k + 1) xs)) ≡ inside n (somes number (drop k xs))
+  outside-skip h e = sym (ap (inside n) (somes-more number xs k None h e))
+
+  pub outside-more : (l : Line) → k < length xs → getD xs k None ≡ Some l → inside n (somes number (drop k xs)) ≡ (ltb (l .number) n && inside n (somes number (drop (k + 1) xs)))
+  outside-more l h e = ap (inside n) (somes-more number xs k (Some l) h e)

@@ -1,7 +1,7 @@
 -- When a board refuses, and with which fault.
 -- Assumes nothing: these are definitions.
-use mathlib.Core.Bool.{Bool, cond, _&&_}
-use mathlib.Core.List.{List, [], _∷_}
+use mathlib.Core.Bool.{cond}
+use mathlib.Core.List.{List, _∷_, []}
 use Prim.Native.Nat.{ℕ, _+_, _*_}
 use lib.Dec.{ltb}
 use lib.ListN.{length}
@@ -36,7 +36,10 @@ full count = cond (ltb 16 count) (Some Full) None
 abbrev pub unsound : ℕ → List ℕ → Option Fault
 unsound n words = or-else (short n words) (outside n (waiting-of n words))
 
--- and with what a chip puts out, after which so many would wait
-abbrev pub unfit : ℕ → Out → ℕ → Option Fault
-unfit n o count =
-    or-else (outside n (somes (λ a. a) (o .asks ∷ []))) (or-else (outside n (somes (λ (l : Line). l .number) (o .writes))) (full count))
+-- a line that a chip asks for or writes is not among memory's n
+abbrev pub astray : ℕ → Out → Option Fault
+astray n o = or-else (outside n (somes (λ a. a) (o .asks ∷ []))) (outside n (somes (λ (l : Line). l .number) (o .writes)))
+
+-- what is wrong with a cycle in which a chip puts out o, after which so many would wait
+abbrev pub unfit : ℕ → List ℕ → Out → ℕ → Option Fault
+unfit n words o count = or-else (unsound n words) (or-else (astray n o) (full count))

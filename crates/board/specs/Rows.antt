@@ -22,7 +22,7 @@ abbrev pub pair-in : Waiting → ℕ × ℕ
 pair-in w = (w .line, w .left)
 
 -- whether each is one of memory's n lines
-unfoldable pub inside : ℕ → List ℕ → Bool
+abbrev pub inside : ℕ → List ℕ → Bool
 inside n [] = true
 inside n (a ∷ rest) = ltb a n && inside n rest
 

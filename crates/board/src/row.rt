@@ -3,8 +3,8 @@ ghost use mathlib.Core.Path.{_≡_};
 ghost use mathlib.Core.List.{[], _++_, _∷_, map};
 ghost use Prim.Native.Nat.{_+_, _<_, _≤_};
 ghost use lib.ListN.{length};
-ghost use Rattle.std.specs.Results.{Cases as ByOk};
-ghost use Rattle.std.specs.declared.option.Option.the-variants.{None, Some};
+ghost use Rattle.std.specs.Results.{errPart};
+ghost use Rattle.std.specs.Vec.{made};
 ghost use Rattle.cores.specs.Board.{among, kept, later};
 ghost use Rattle.board.specs.Faults.{full};
 ghost use Rattle.board.specs.Rows.{inside, items-of, line-in, newly, pair-in};
@@ -110,8 +110,8 @@ impl Row {
     // The row with the line that is asked for now, if any, and the cycles after the next till it comes; refused where sixteen wait already.
     pub(crate) fn with_asked(self, asks: Option<u32>, left: u32) -> Result<Row, Fault>
         requires { ⌜ self .count ≤ 16 ⌝ }
-        ensures row { λ r. ⌜ ByOk r (λ s. (items-of s ≡ items-of self ++ newly left asks) × (s .count ≤ 16)) (λ _. Unit {0}) ⌝ }
-        ensures fault { λ r. ⌜ ByOk r (λ _. full (length (items-of self ++ newly left asks)) ≡ None) (λ e. full (length (items-of self ++ newly left asks)) ≡ Some e) ⌝ }
+        ensures row { λ r. ⌜ made r (λ s. (items-of s ≡ items-of self ++ newly left asks) × (s .count ≤ 16)) ⌝ }
+        ensures fault { λ r. ⌜ errPart r ≡ full (length (items-of self ++ newly left asks)) ⌝ }
     {
         let Some(line) = asks else {
             return Ok(self);
