@@ -2,4 +2,5 @@
 pub mod Rows
 pub mod Places
 pub mod Writes
-pub mod Coming
+pub mod Lookups
+pub mod Follows

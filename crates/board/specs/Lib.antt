@@ -2,3 +2,4 @@
 pub mod Rows
 pub mod Layout
 pub mod Faults
+pub mod Cycle

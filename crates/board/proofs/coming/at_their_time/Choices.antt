@@ -3,8 +3,8 @@ use lib.ListN.{take}
 use Rattle.cores.specs.Board.{due}
 use Rattle.board.specs.Layout.{memory-of}
 use Rattle.board.specs.Rows.{pair-in}
-use Rattle.board.proofs.Coming.{Come}
-use Rattle.board.proofs.given.at_their_time.Given as given
+use Rattle.board.proofs.Lookups.{Come}
+use Rattle.board.proofs.coming.at_their_time.Given as given
 
 -- what came so far is what is due of the places so far
 abbrev pub Inv-loop-i : given.InvT-loop-i

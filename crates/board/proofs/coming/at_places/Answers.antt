@@ -9,9 +9,9 @@ use Rattle.cores.specs.Board.{handed}
 use Rattle.cores.specs.declared.port.Line.{Line}
 use Rattle.board.specs.Layout.{memory-of}
 use Rattle.board.specs.Rows.{line-in}
-use Rattle.board.proofs.Coming.{Come, empty-all, item-inside, handed-less, handed-more}
-use Rattle.board.proofs.given.at_places.Needs as need
-use Rattle.board.proofs.given.at_places.Needs.{then-is-among, else-is-among}
+use Rattle.board.proofs.Lookups.{Come, empty-all, item-inside, handed-less, handed-more}
+use Rattle.board.proofs.coming.at_places.Needs as need
+use Rattle.board.proofs.coming.at_places.Needs.{then-is-among, else-is-among}
 
 pub loop-i-holds : need.loop-i-holds
 unfolding handed

@@ -9,9 +9,9 @@ use Rattle.cores.specs.Board.{due}
 use Rattle.cores.specs.declared.port.Line.{Line}
 use Rattle.board.specs.Layout.{memory-of}
 use Rattle.board.specs.Rows.{pair-in}
-use Rattle.board.proofs.Coming.{Come, empty-all, item-inside, due-less, due-more}
-use Rattle.board.proofs.given.at_their_time.Needs as need
-use Rattle.board.proofs.given.at_their_time.Needs.{then-waiting-eq0, else-waiting-eq0}
+use Rattle.board.proofs.Lookups.{Come, empty-all, item-inside, due-less, due-more}
+use Rattle.board.proofs.coming.at_their_time.Needs as need
+use Rattle.board.proofs.coming.at_their_time.Needs.{then-waiting-eq0, else-waiting-eq0}
 
 pub loop-i-holds : need.loop-i-holds
 unfolding due
