@@ -7,9 +7,12 @@ use native.Mathlib.Omega.{arith}
 use native.Mathlib.Nat.{zero-add}
 use lib.Dec.{eqb, ltb}
 use lib.ListN.{length, getD, take, drop}
-use Rattle.std.proofs.shelf.Lists.{at-drop-more, at-drop-all, map-more, map-push, length-map, length-take-le, append-nil, getD-map, getD-take}
+use Rattle.std.proofs.shelf.Lists.{at-drop-more, at-drop-all, map-more, map-push, length-map, length-push, length-take-le, append-nil, getD-map, getD-take}
+use Rattle.std.proofs.shelf.Tests.{cond-false, le-ltb}
+use Rattle.std.specs.declared.option.Option.the-variants.{None}
 use Rattle.cores.specs.Machines.{pick}
 use Rattle.cores.specs.Board.{among, kept, later}
+use Rattle.board.specs.Faults.{full}
 use Rattle.board.specs.Rows.{inside, items-of, line-in, pair-in}
 use Rattle.board.specs.declared.row.Row.{Row}
 use Rattle.board.specs.declared.row.Waiting.{Waiting}
@@ -86,6 +89,10 @@ module _ {X Y Z : Type 0} (F : List Y → List Z) (g : ℕ → Y → List Z) (pu
 pub pushed : {Y : Type 0} (f : Waiting → Y) (r s : Row) (w : Waiting) → items-of s ≡ items-of r ++ w ∷ [] → map f (items-of s) ≡ map f (items-of r) ++ f w ∷ []
 pushed f r s w e = ap (map f) e ∙ map-push f (items-of r) w
 
+-- and it counts them
+pub counted : (r s : Row) (w : Waiting) → items-of s ≡ items-of r ++ w ∷ [] → s .count ≡ r .count + 1 → r .count ≡ length (items-of r) → s .count ≡ length (items-of s)
+counted r s w e c l = c ∙ ap (λ k. k + 1) l ∙ sym (ap length e ∙ length-push (items-of r) w)
+
 -- a turn of the loop that keeps what is not given
 module _ (gs : List ℕ) (xs : List Waiting) (i : ℕ) (h : i < length xs) (r : Row) (inv : map line-in (items-of r) ≡ kept gs 0 (map line-in (take i xs))) where
   pub kept-more : (s : Row) → among i gs ≡ false → items-of s ≡ items-of r ++ getD xs i nobody ∷ [] → map line-in (items-of s) ≡ kept gs 0 (map line-in (take (i + 1) xs))
@@ -110,3 +117,7 @@ module _ (xs : List Waiting) (i : ℕ) (h : i < length xs) (r : Row) (inv : map 
   later-less e =
       let t : eqb (getD xs i nobody .left) 0 ≡ true = grind arith in
       row-skips later (λ n w. pick (eqb (w .1) 0) [] ((w .0, w .1 - 1) ∷ [])) later-push pair-in xs i nobody h _ inv (rw t refl)
+
+-- so many may wait
+pub fits : (count : ℕ) → count ≤ 16 → None ≡ full count
+fits count h = sym (cond-false _ _ _ (le-ltb 16 count h))

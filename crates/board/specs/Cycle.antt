@@ -1,20 +1,14 @@
 -- What a cycle makes of a board in lent words: on a board with choices, and on one that gives each line after so many cycles.
 -- Assumes nothing: these are definitions.
 use mathlib.Core.Path.{_≡_}
-use mathlib.Core.List.{List, [], _∷_, _++_}
+use mathlib.Core.List.{List, _++_}
 use Prim.Native.Nat.{ℕ}
 use Rattle.cores.specs.Machines.{Event}
 use Rattle.cores.specs.Board.{Choice, asked, board-after, kept, later, with-lines}
-use Rattle.cores.specs.Ports.{event-of, line-of, out-of, said-of, somes}
+use Rattle.cores.specs.Ports.{event-of, out-of, said-of, somes}
 use Rattle.cores.specs.declared.port.Out.{Out}
+use Rattle.board.specs.Rows.{asks-of, writes-of}
 use Rattle.board.specs.Layout.{board-of, memory-of, timed-of, waiting-of}
-
--- the lines that a chip asks for, and those that it writes
-abbrev pub asks-of : Out → List ℕ
-asks-of o = somes (λ a. a) (o .asks ∷ [])
-
-abbrev pub writes-of : Out → List (ℕ × List ℕ)
-writes-of o = somes line-of (o .writes)
 
 -- those that wait after a cycle in which these places are given
 abbrev pub next-waiting : ℕ → List ℕ → List ℕ → Out → List ℕ

@@ -1,7 +1,7 @@
 -- When a board refuses, and with which fault.
 -- Assumes nothing: these are definitions.
 use mathlib.Core.Bool.{cond}
-use mathlib.Core.List.{List, _∷_, []}
+use mathlib.Core.List.{List}
 use Prim.Native.Nat.{ℕ, _+_, _*_}
 use lib.Dec.{ltb}
 use lib.ListN.{length}
@@ -10,7 +10,7 @@ use Rattle.std.specs.declared.option.Option.the-variants.{Some, None}
 use Rattle.cores.specs.Ports.{somes}
 use Rattle.cores.specs.declared.port.Line.{Line}
 use Rattle.cores.specs.declared.port.Out.{Out}
-use Rattle.board.specs.Rows.{inside}
+use Rattle.board.specs.Rows.{asks-of, inside}
 use Rattle.board.specs.Layout.{waiting-of}
 use Rattle.board.specs.declared.fault.Fault.{Fault}
 use Rattle.board.specs.declared.fault.Fault.the-variants.{Short, Full, Outside}
@@ -38,8 +38,8 @@ unsound n words = or-else (short n words) (outside n (waiting-of n words))
 
 -- a line that a chip asks for or writes is not among memory's n
 abbrev pub astray : ℕ → Out → Option Fault
-astray n o = or-else (outside n (somes (λ a. a) (o .asks ∷ []))) (outside n (somes (λ (l : Line). l .number) (o .writes)))
+astray n o = or-else (outside n (asks-of o)) (outside n (somes (λ (l : Line). l .number) (o .writes)))
 
--- what is wrong with a cycle in which a chip puts out o, after which so many would wait
+-- what is wrong with a cycle in which a chip puts out o, and so many are left of those that waited
 abbrev pub unfit : ℕ → List ℕ → Out → ℕ → Option Fault
-unfit n words o count = or-else (unsound n words) (or-else (astray n o) (full count))
+unfit n words o left = or-else (unsound n words) (or-else (astray n o) (full (left + length (asks-of o))))

@@ -1,12 +1,12 @@
--- The row of lines that wait, by value, as a list.
+-- The row of lines that wait, by value, as a list; and the lines that a chip asks for and writes.
 -- Assumes nothing: these are definitions.
 use mathlib.Core.Bool.{Bool, true, _&&_}
 use mathlib.Core.List.{List, [], _∷_}
 use Prim.Native.Nat.{ℕ}
 use lib.Dec.{ltb}
 use lib.ListN.{take}
-use Rattle.std.specs.declared.option.Option.{Option}
-use Rattle.std.specs.declared.option.Option.the-variants.{Some, None}
+use Rattle.cores.specs.Ports.{line-of, somes}
+use Rattle.cores.specs.declared.port.Out.{Out}
 use Rattle.board.specs.declared.row.Row.{Row}
 use Rattle.board.specs.declared.row.Waiting.{Waiting}
 
@@ -26,7 +26,9 @@ abbrev pub inside : ℕ → List ℕ → Bool
 inside n [] = true
 inside n (a ∷ rest) = ltb a n && inside n rest
 
--- one asked for now, if any
-abbrev pub newly : ℕ → Option ℕ → List Waiting
-newly left None = []
-newly left (Some a) = record { line = a; left = left } ∷ []
+-- the lines that a chip asks for, and those that it writes
+abbrev pub asks-of : Out → List ℕ
+asks-of o = somes (λ a. a) (o .asks ∷ [])
+
+abbrev pub writes-of : Out → List (ℕ × List ℕ)
+writes-of o = somes line-of (o .writes)

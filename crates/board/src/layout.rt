@@ -79,14 +79,22 @@ pub(crate) fn read_line(board: &[u32], lines: usize, number: u32) -> Line
     }
 }
 
-// A line of memory becomes the one given; one that is not there is not written. The row stays.
+// Line `number` of memory becomes the words given. The row stays.
+fn put_memory(board: &mut [u32], lines: usize, number: usize, words: [u32; 8])
+    requires { ⌜ 8 * lines + 1024 ≤ length (now board) ⌝ ∗ ⌜ number < lines ⌝ }
+    ensures { λ _. ⌜ memory-of lines (now (board .exit)) ≡ set (memory-of lines (now (board .entry))) number words ⌝ ∗ ⌜ row-of lines (now (board .exit)) ≡ row-of lines (now (board .entry)) ⌝ }
+{
+    put_line(&mut board[0..8 * lines], number, words);
+}
+
+// Memory takes a line that is written; one that is not there is not written. The row stays.
 fn write_line(board: &mut [u32], lines: usize, line: Line)
     requires { ⌜ 8 * lines + 1024 ≤ length (now board) ⌝ }
     ensures { λ _. ⌜ memory-of lines (now (board .exit)) ≡ set (memory-of lines (now (board .entry))) (line .number) (line .words) ⌝ ∗ ⌜ row-of lines (now (board .exit)) ≡ row-of lines (now (board .entry)) ⌝ }
 {
     let number = line.number as usize;
     if number < lines {
-        put_line(&mut board[0..8 * lines], number, line.words);
+        put_memory(board, lines, number, line.words);
     }
 }
 

@@ -5,9 +5,10 @@ ghost use Prim.Native.Nat.{_+_, _<_, _≤_};
 ghost use lib.ListN.{length};
 ghost use Rattle.std.specs.Results.{errPart};
 ghost use Rattle.std.specs.Vec.{made};
-ghost use Rattle.cores.specs.Board.{among, kept, later};
+ghost use Rattle.cores.specs.Board.{among, asked, kept, later};
+ghost use Rattle.cores.specs.Ports.{somes};
 ghost use Rattle.board.specs.Faults.{full};
-ghost use Rattle.board.specs.Rows.{inside, items-of, line-in, newly, pair-in};
+ghost use Rattle.board.specs.Rows.{inside, items-of, line-in, pair-in};
 use crate::fault::Fault;
 
 // A line that waits, and how many cycles after the next it comes, which only the steady board asks.
@@ -63,7 +64,7 @@ impl Row {
     // The row without the places given.
     pub(crate) fn without(self, places: &[u8]) -> Row
         requires { ⌜ self .count ≤ 16 ⌝ }
-        ensures { λ r. ⌜ map line-in (items-of r) ≡ kept (now (places .entry)) 0 (map line-in (items-of self)) ⌝ ∗ ⌜ r .count ≤ self .count ⌝ }
+        ensures { λ r. ⌜ map line-in (items-of r) ≡ kept (now (places .entry)) 0 (map line-in (items-of self)) ⌝ ∗ ⌜ r .count ≡ length (kept (now (places .entry)) 0 (map line-in (items-of self))) ⌝ ∗ ⌜ r .count ≤ self .count ⌝ }
     {
         let mut row = Row::empty();
         for i in 0..self.count {
@@ -77,7 +78,7 @@ impl Row {
     // The row without those that come now, the others a cycle nearer.
     pub(crate) fn later(self) -> Row
         requires { ⌜ self .count ≤ 16 ⌝ }
-        ensures { λ r. ⌜ map pair-in (items-of r) ≡ later (map pair-in (items-of self)) ⌝ ∗ ⌜ r .count ≤ self .count ⌝ }
+        ensures { λ r. ⌜ map pair-in (items-of r) ≡ later (map pair-in (items-of self)) ⌝ ∗ ⌜ r .count ≡ length (later (map pair-in (items-of self))) ⌝ ∗ ⌜ r .count ≤ self .count ⌝ }
     {
         let mut row = Row::empty();
         for i in 0..self.count {
@@ -110,8 +111,10 @@ impl Row {
     // The row with the line that is asked for now, if any, and the cycles after the next till it comes; refused where sixteen wait already.
     pub(crate) fn with_asked(self, asks: Option<u32>, left: u32) -> Result<Row, Fault>
         requires { ⌜ self .count ≤ 16 ⌝ }
-        ensures row { λ r. ⌜ made r (λ s. (items-of s ≡ items-of self ++ newly left asks) × (s .count ≤ 16)) ⌝ }
-        ensures fault { λ r. ⌜ errPart r ≡ full (length (items-of self ++ newly left asks)) ⌝ }
+        ensures lines { λ r. ⌜ made r (λ s. map line-in (items-of s) ≡ map line-in (items-of self) ++ somes (λ a. a) (asks ∷ [])) ⌝ }
+        ensures timed { λ r. ⌜ made r (λ s. map pair-in (items-of s) ≡ map pair-in (items-of self) ++ asked (λ _. left) (somes (λ a. a) (asks ∷ []))) ⌝ }
+        ensures count { λ r. ⌜ made r (λ s. s .count ≤ 16) ⌝ }
+        ensures fault { λ r. ⌜ errPart r ≡ full (self .count + length (somes (λ a. a) (asks ∷ []))) ⌝ }
     {
         let Some(line) = asks else {
             return Ok(self);
