@@ -1,0 +1,3 @@
+-- Lemmas on the machines at a lent memory.
+pub mod Agree
+pub mod Rows
