@@ -3,3 +3,6 @@ pub mod Runs
 pub mod Lines
 pub mod Keeps
 pub mod Events
+pub mod Regions
+pub mod Attempt
+pub mod Outs
