@@ -1,33 +1,35 @@
 -- What a cycle puts out: rows with empty places, the words said, the interrupts of all cores; and the line that comes.
-use mathlib.Core.Bool.{Bool}
+use mathlib.Core.Bool.{Bool, cond}
 use mathlib.Core.List.{List, [], _∷_, _++_, map}
 use mathlib.Core.Logic.{_≢_, inl, inr}
 use mathlib.Core.Path.{_≡_, refl, sym, ap, _∙_, fun-ext}
 use Prim.Native.Nat.{ℕ, zero, suc, _+_, _*_, _≤_, _<_}
 use native.Mathlib.Numerals.{add-one}
 use native.Mathlib.Omega.{arith}
-use lib.Dec.{ltb}
+use borrow.Rule.Slice.PartMut.{putMid}
+use lib.Dec.{eqb, ltb}
 use lib.ListN.{length, getD, set, replicate}
 use Rattle.std.proofs.shelf.Lists.{append-nil, getD-set-other}
 use Rattle.std.proofs.shelf.Tests.{cases-eq, cases-lt, eq-eqb, le-ltb, lt-ltb, ne-eqb}
 use Rattle.std.specs.declared.option.Option.{Option}
 use Rattle.std.specs.declared.option.Option.the-variants.{Some, None}
+use Rattle.words.specs.Parts.{part}
+use Rattle.words.proofs.Parts.{part-here, part-word}
 use Rattle.rv32.specs.Execute.{fetch, start}
 use Rattle.rv32.specs.declared.core.Core.{Core}
 use Rattle.cores.specs.Machines.{pick}
 use Rattle.cores.specs.Board.{Out}
 use Rattle.cores.specs.Loop.{Step as Step-of, silent, joined, then, each}
-use Rattle.cores.specs.Ports.{event-of, line-of, out-of, said-of, somes}
+use Rattle.cores.specs.Ports.{line-of, out-of, said-at, said-of, somes}
 use Rattle.cores.specs.Put.{put}
 use Rattle.cores.specs.declared.port.Event as port
-use Rattle.cores.specs.declared.port.Event.the-variants.{Step}
 use Rattle.cores.specs.declared.port.Line.{Line}
+use Rattle.cores.specs.declared.port.Out as port-out
 use Rattle.soc.proofs.Regions.{picked, unpicked}
 use Rattle.soc.specs.Layout.{shared, state-from, state-of, with-cpu, with-on, with-shared}
 use Rattle.soc.specs.Rv.{rv}
 use Rattle.soc.specs.Soc.{State, act, cycle, fresh, receive, received, take-interrupt}
-use Rattle.soc.specs.Turn.{Empty-from, filled, only-did, put-out}
-use Rattle.soc.specs.declared.control.Act.the-variants.{Does}
+use Rattle.soc.specs.Turn.{Empty-from, filled}
 use Rattle.soc.specs.declared.control.Control.{Control}
 
 -- a row of empty places
@@ -78,24 +80,35 @@ cycle-is lines up h h₁ h₂ h₃ o o′ p q r u v =
     then-is (receive rv lines) (then (each (take-interrupt rv up) 4) (act rv)) h h₁ h₃ silent (joined o o′) p refl (ap (λ x. x .0) rest) (ap (λ x. x .1) rest)
 
 -- the words said
-pub said-one : (k x : ℕ) (rest : List ℕ) → k < 4 → said-of (set (set (replicate 8 0) (2 * k) 1) (2 * k + 1) x ++ rest) ≡ (k, x) ∷ []
-said-one zero x rest h = refl
-said-one (suc zero) x rest h = refl
-said-one (suc (suc zero)) x rest h = refl
-said-one (suc (suc (suc zero))) x rest h = refl
-said-one (suc (suc (suc (suc k)))) x rest h = absurd (omega arith)
+pub said-one : (k x : ℕ) → k < 4 → said-of (set (set (replicate 8 0) (2 * k) 1) (2 * k + 1) x) ≡ (k, x) ∷ []
+said-one zero x h = refl
+said-one (suc zero) x h = refl
+said-one (suc (suc zero)) x h = refl
+said-one (suc (suc (suc zero))) x h = refl
+said-one (suc (suc (suc (suc k)))) x h = absurd (omega arith)
 
--- what is put out where an instruction is done
-writes-one : (w : Option Line) → somes line-of (w ∷ None ∷ None ∷ None ∷ []) ≡ somes line-of (w ∷ [])
+-- they are read from the first eight words
+said-front-at : (w : List ℕ) (k : ℕ) → k < 4 → said-at (part 0 8 w) k ≡ said-at w k
+said-front-at w k h =
+    let at : (j : ℕ) → j < 8 → getD (part 0 8 w) j 0 ≡ getD w j 0 = λ j l. part-word 0 8 w j 0 l ∙ ap (λ i. getD w i 0) (omega arith) in
+    λ i. cond (eqb (at (2 * k) (omega arith) i) 0) [] ((k, at (2 * k + 1) (omega arith) i) ∷ [])
+
+said-front : (w : List ℕ) → said-of (part 0 8 w) ≡ said-of w
+said-front w =
+    λ i. said-front-at w 0 (omega arith) i ++ said-front-at w 1 (omega arith) i ++ said-front-at w 2 (omega arith) i ++ said-front-at w 3 (omega arith) i
+
+pub wrote-said : (o : port-out.Out) (w ys : List ℕ) → length ys ≡ 8 → 8 ≤ length w → out-of o (putMid 0 8 w ys) ≡ out-of o ys
+wrote-said o w ys e h = λ i. record {
+  asks = out-of o ys .asks;
+  writes = out-of o ys .writes;
+  says = (sym (said-front (putMid 0 8 w ys)) ∙ ap said-of (part-here 0 8 8 w ys e h)) i;
+  did = out-of o ys .did;
+}
+
+-- at most one line is written
+pub writes-one : (w : Option Line) → somes line-of (w ∷ None ∷ None ∷ None ∷ []) ≡ somes line-of (w ∷ [])
 writes-one None = refl
 writes-one (Some l) = refl
-
-pub put-done : (did : List (Option port.Event)) (k : ℕ) (wrote : Option Line) (word : Option ℕ) (said : List ℕ) → length did ≡ 8 → Empty-from 4 did →
-    said-of said ≡ somes (λ x. (k, x)) (word ∷ []) →
-    out-of (record { asks = None; writes = wrote ∷ None ∷ None ∷ None ∷ []; did = set did 4 (Some (Step k)) }) said
-    ≡ joined (only-did (somes event-of did)) (put-out k (Does wrote word))
-put-done did k wrote word said l o h =
-    λ i. record { asks = []; writes = writes-one wrote i; says = h i; did = somes-set event-of did 4 (Some (Step k)) (omega arith) o i }
 
 -- no line comes, or the first is taken
 pub received-none : (ls : List Line) (h : State rv) → length ls ≡ 0 → received rv (map line-of ls) h ≡ h
@@ -103,10 +116,10 @@ received-none [] h e = refl
 received-none (l ∷ ls) h e = absurd (omega arith)
 
 pub received-first : (ls : List Line) (h : State rv) (s : Control) (c : Core) (code : Option ℕ) (d : Line) → 0 < length ls → s ≡ shared h → c ≡ h .cpu (s .turn) →
-    code ≡ fetch (s .lines) c → with-shared h (filled s code (getD ls 0 d)) ≡ received rv (map line-of ls) h
+    code ≡ fetch (s .size) c → with-shared h (filled s code (getD ls 0 d)) ≡ received rv (map line-of ls) h
 received-first [] h s c code d n p q r = absurd (omega arith)
 received-first (l ∷ ls) h s c code d n p q r =
-    let at : code ≡ fetch (h .size) (h .cpu (h .turn)) = r ∙ ap (fetch (s .lines)) q ∙ ap (λ (t : Control). fetch (t .lines) (h .cpu (t .turn))) p in
+    let at : code ≡ fetch (h .size) (h .cpu (h .turn)) = r ∙ ap (fetch (s .size)) q ∙ ap (λ (t : Control). fetch (t .size) (h .cpu (t .turn))) p in
     ap (λ t. with-shared h (filled t code l)) p ∙ ap (λ o. with-shared h (filled (shared h) o l)) at
 
 -- a new chip: four new cores, of which the first n are on. One core more
@@ -138,7 +151,7 @@ on-begun w n m h =
     fun-ext (λ j. elim (cases-lt j 4) [ inl l ↦ h j l | inr g ↦ rw (le-ltb j 4 g, le-ltb j n (omega arith)) refl ])
 
 pub begun : (w : List ℕ) (n lines : ℕ) → n ≤ 4 → ((j : ℕ) → j < 4 → (state-of w .cpu j ≡ start j) × (state-of w .on j ≡ ltb j n)) →
-    with-shared (state-of w) (record { count = n; lines = lines; turn = 0; asked = None; fetched = None; loaded = None }) ≡ fresh rv n lines
+    with-shared (state-of w) (record { count = n; size = lines; turn = 0; asked = None; fetched = None; loaded = None }) ≡ fresh rv n lines
 begun w n lines m h =
     λ i. state-from (cpu-begun w (λ j l. h j l .0) i) (on-begun w n m (λ j l. h j l .1) i)
-    (record { count = n; lines = lines; turn = 0; asked = None; fetched = None; loaded = None })
+    (record { count = n; size = lines; turn = 0; asked = None; fetched = None; loaded = None })

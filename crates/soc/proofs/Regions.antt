@@ -7,7 +7,7 @@ use Prim.Native.Nat.{ℕ, _+_, _*_, _%_, _≤_, _<_, min}
 use native.Mathlib.Omega.{arith}
 use borrow.Rule.Slice.PartMut.{putMid}
 use lib.Dec.{eqb, ltb}
-use lib.ListN.{length, getD, set}
+use lib.ListN.{length, getD, set, take}
 use mir.Val.{boolByte}
 use Rattle.std.proofs.shelf.Lists.{take-at, getD-set-same, getD-set-other}
 use Rattle.std.proofs.shelf.Tests.{cases-eq, lt-ltb, eq-eqb, ne-eqb}
@@ -15,7 +15,7 @@ use Rattle.std.specs.Options.{isSome, valueOr}
 use Rattle.std.specs.declared.option.Option.{Option}
 use Rattle.std.specs.declared.option.Option.the-variants.{Some, None}
 use Rattle.words.specs.Parts.{part, block}
-use Rattle.words.proofs.Parts.{part-here, part-other, put-length, apart}
+use Rattle.words.proofs.Parts.{part-here, part-other, part-part, put-length, apart}
 use Rattle.rv32.specs.Execute.{start}
 use Rattle.rv32.specs.declared.core.Core.{Core}
 use Rattle.cores.specs.Machines.{pick}
@@ -92,11 +92,11 @@ least n h = omega arith
 small : (n : ℕ) → n < 4 → n % 4 ≡ n
 small n h = omega arith
 
-same-control : (x y : Control) → x .count ≡ y .count → x .lines ≡ y .lines → x .turn ≡ y .turn → x .asked ≡ y .asked → x .fetched ≡ y .fetched → x .loaded ≡ y .loaded → x ≡ y
-same-control x y a b c d e f = λ i. record { count = a i; lines = b i; turn = c i; asked = d i; fetched = e i; loaded = f i }
+same-control : (x y : Control) → x .count ≡ y .count → x .size ≡ y .size → x .turn ≡ y .turn → x .asked ≡ y .asked → x .fetched ≡ y .fetched → x .loaded ≡ y .loaded → x ≡ y
+same-control x y a b c d e f = λ i. record { count = a i; size = b i; turn = c i; asked = d i; fetched = e i; loaded = f i }
 
 abbrev front : Control → List ℕ
-front c = c .count ∷ c .lines ∷ c .turn ∷ boolByte (isSome (c .asked)) ∷ valueOr (c .asked) 0 ∷ []
+front c = c .count ∷ c .size ∷ c .turn ∷ boolByte (isSome (c .asked)) ∷ valueOr (c .asked) 0 ∷ []
 
 pub control-written : (b ys fs ls : List ℕ) (c : Control) → length b ≡ 25 → c .count ≤ 4 → c .turn < 4 → ys ≡ front c → length fs ≡ 10 → length ls ≡ 10 →
     buffer-of fs ≡ c .fetched → buffer-of ls ≡ c .loaded → control-of (putMid 15 10 (putMid 5 10 (putMid 0 5 b ys) fs) ls) ≡ c
@@ -114,7 +114,7 @@ pub control-within : (b : List ℕ) (c : Control) → c ≡ control-of b → (c 
 control-within b c e = (omega (arith, ap (λ (x : Control). x .count) e), omega (arith, ap (λ (x : Control). x .turn) e))
 
 -- the state, after one region of the words was written
-module _ (w ys : List ℕ) (h : 16384 ≤ length w) where
+module _ (w ys : List ℕ) (h : 169 ≤ length w) where
   pub wrote-cores : length ys ≡ 140 → state-of (putMid 0 140 w ys) ≡ state-from (cpus-of ys) (state-of w .on) (shared (state-of w))
   unfolding state-of
   wrote-cores e = λ i. state-from
@@ -135,3 +135,18 @@ module _ (w ys : List ℕ) (h : 16384 ≤ length w) where
       (cpus-of (part-other 0 140 144 25 w ys e (omega arith) (inl (omega arith)) i))
       (ons-of (part-other 140 4 144 25 w ys e (omega arith) (inl (omega arith)) i))
       (control-of (part-here 144 25 25 w ys e (omega arith) i))
+
+-- the state lies in the first 169 words
+state-front : (w : List ℕ) → state-of (part 0 169 w) ≡ state-of w
+unfolding state-of
+state-front w = λ i. state-from
+    (cpus-of (part-part 0 169 0 140 w (omega arith) i))
+    (ons-of (part-part 0 169 140 4 w (omega arith) i))
+    (control-of (part-part 0 169 144 25 w (omega arith) i))
+
+pub read-front : (w : List ℕ) → state-of (take 169 w) ≡ state-of w
+unfolding part
+read-front w = state-front w
+
+pub wrote-front : (w ys : List ℕ) → length ys ≡ 169 → 169 ≤ length w → state-of (putMid 0 169 w ys) ≡ state-of ys
+wrote-front w ys e h = sym (state-front (putMid 0 169 w ys)) ∙ ap state-of (part-here 0 169 169 w ys e h)

@@ -47,7 +47,7 @@ asked-of full number = pick (flag full) (Some number) None
 abbrev pub control-of : List ℕ → Control
 control-of b = record {
   count = min (getD b 0 0) 4;
-  lines = getD b 1 0;
+  size = getD b 1 0;
   turn = getD b 2 0 % 4;
   asked = asked-of (getD b 3 0) (getD b 4 0);
   fetched = buffer-of (part 5 10 b);
@@ -58,7 +58,7 @@ control-of b = record {
 abbrev pub state-from : (ℕ → Core) → (ℕ → Bool) → Control → State rv
 state-from cpu on c = record {
   count = c .count;
-  size = c .lines;
+  size = c .size;
   turn = c .turn;
   cpu = cpu;
   on = on;
@@ -67,13 +67,13 @@ state-from cpu on c = record {
   asked = c .asked;
 }
 
--- THE STATE: cores in words 0 to 139, whether they go in 140 to 143, what they share in 144 to 168
+-- THE STATE: cores in words 0 to 139, whether they go in 140 to 143, what they share in 144 to 168; the others are not used
 unfoldable pub state-of : List ℕ → State rv
 state-of w = state-from (cpus-of (part 0 140 w)) (ons-of (part 140 4 w)) (control-of (part 144 25 w))
 
 -- what the cores share of a state
 abbrev pub shared : State rv → Control
-shared h = record { count = h .count; lines = h .size; turn = h .turn; asked = h .asked; fetched = h .fetched; loaded = h .loaded }
+shared h = record { count = h .count; size = h .size; turn = h .turn; asked = h .asked; fetched = h .fetched; loaded = h .loaded }
 
 -- a state with other registers of core k, with core k on or off, and with another thing shared
 abbrev pub with-cpu : State rv → ℕ → Core → State rv

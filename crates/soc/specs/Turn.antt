@@ -28,16 +28,16 @@ words-in s = word-in (s .fetched) (s .loaded)
 
 -- the line that core c lacks: that of its instruction, else that of its data
 abbrev pub lacked : Control → Core → Option ℕ
-lacked s c = first (lacks-code (fetch (s .lines) c) (s .fetched)) (lacks-data (needs rv (s .lines) c (words-in s)) (s .fetched) (s .loaded))
+lacked s c = first (lacks-code (fetch (s .size) c) (s .fetched)) (lacks-data (needs rv (s .size) c (words-in s)) (s .fetched) (s .loaded))
 
 -- what is shared once the turn has passed, once a line has come for a core that fetches this word, and once line a is asked for
 abbrev pub turned : Control → Control
-turned s = record { count = s .count; lines = s .lines; turn = following (s .count) (s .turn); asked = None; fetched = None; loaded = None }
+turned s = record { count = s .count; size = s .size; turn = following (s .count) (s .turn); asked = None; fetched = None; loaded = None }
 
 abbrev pub filled : Control → Option ℕ → Line → Control
 filled s code l = record {
   count = s .count;
-  lines = s .lines;
+  size = s .size;
   turn = s .turn;
   asked = None;
   fetched = pick (lies-in code (l .number)) (Some l) (s .fetched);
@@ -45,7 +45,7 @@ filled s code l = record {
 }
 
 abbrev pub asking : Control → ℕ → Control
-asking s a = record { count = s .count; lines = s .lines; turn = s .turn; asked = Some a; fetched = s .fetched; loaded = s .loaded }
+asking s a = record { count = s .count; size = s .size; turn = s .turn; asked = Some a; fetched = s .fetched; loaded = s .loaded }
 
 -- the places of a row of events are empty from place n on
 abbrev pub Empty-from : ℕ → List (Option port.Event) → Type 0

@@ -7,7 +7,7 @@ pub struct Control {
     // how many cores there are, at most 4
     pub count: usize,
     // how many lines memory has
-    pub lines: u32,
+    pub size: u32,
     // whose turn it is, below 4
     pub turn: usize,
     // the line that is asked for and has not come

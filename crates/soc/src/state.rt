@@ -98,7 +98,7 @@ fn read_control(block: &[u32]) -> Control
 {
     Control {
         count: block[0].min(4) as usize,
-        lines: block[1],
+        size: block[1],
         turn: block[2] as usize % 4,
         asked: read_asked(block[3], block[4]),
         fetched: read_buffer(&block[5..15]),
@@ -112,7 +112,7 @@ fn write_control(block: &mut [u32], control: Control)
 {
     let head = [
         control.count as u32,
-        control.lines,
+        control.size,
         control.turn as u32,
         control.asked.is_some() as u32,
         control.asked.unwrap_or(0),
@@ -124,14 +124,14 @@ fn write_control(block: &mut [u32], control: Control)
 
 // The registers of core k.
 pub(crate) fn core(chip: &[u32], k: usize) -> Core
-    requires { ⌜ k < 4 ⌝ ∗ ⌜ 16384 ≤ length (now chip) ⌝ }
+    requires { ⌜ k < 4 ⌝ ∗ ⌜ 169 ≤ length (now chip) ⌝ }
     ensures { λ r. ⌜ r ≡ state-of (now (chip .entry)) .cpu k ⌝ }
 {
     core_at(&chip[0..140], k)
 }
 
 pub(crate) fn set_core(chip: &mut [u32], k: usize, core: Core)
-    requires { ⌜ k < 4 ⌝ ∗ ⌜ 16384 ≤ length (now chip) ⌝ }
+    requires { ⌜ k < 4 ⌝ ∗ ⌜ 169 ≤ length (now chip) ⌝ }
     ensures { λ _. ⌜ state-of (now (chip .exit)) ≡ with-cpu (state-of (now (chip .entry))) k core ⌝ }
 {
     put_core(&mut chip[0..140], k, core);
@@ -139,14 +139,14 @@ pub(crate) fn set_core(chip: &mut [u32], k: usize, core: Core)
 
 // Whether core k goes.
 pub(crate) fn is_on(chip: &[u32], k: usize) -> bool
-    requires { ⌜ k < 4 ⌝ ∗ ⌜ 16384 ≤ length (now chip) ⌝ }
+    requires { ⌜ k < 4 ⌝ ∗ ⌜ 169 ≤ length (now chip) ⌝ }
     ensures { λ r. ⌜ r ≡ state-of (now (chip .entry)) .on k ⌝ }
 {
     on_at(&chip[140..144], k)
 }
 
 pub(crate) fn set_on(chip: &mut [u32], k: usize, on: bool)
-    requires { ⌜ k < 4 ⌝ ∗ ⌜ 16384 ≤ length (now chip) ⌝ }
+    requires { ⌜ k < 4 ⌝ ∗ ⌜ 169 ≤ length (now chip) ⌝ }
     ensures { λ _. ⌜ state-of (now (chip .exit)) ≡ with-on (state-of (now (chip .entry))) k on ⌝ }
 {
     put_on(&mut chip[140..144], k, on);
@@ -154,7 +154,7 @@ pub(crate) fn set_on(chip: &mut [u32], k: usize, on: bool)
 
 // What the cores share.
 pub(crate) fn control(chip: &[u32]) -> Control
-    requires { ⌜ 16384 ≤ length (now chip) ⌝ }
+    requires { ⌜ 169 ≤ length (now chip) ⌝ }
     ensures value { λ r. ⌜ r ≡ shared (state-of (now (chip .entry))) ⌝ }
     ensures within { λ r. ⌜ (r .count ≤ 4) × (r .turn < 4) ⌝ }
 {
@@ -162,7 +162,7 @@ pub(crate) fn control(chip: &[u32]) -> Control
 }
 
 pub(crate) fn set_control(chip: &mut [u32], control: Control)
-    requires { ⌜ 16384 ≤ length (now chip) ⌝ ∗ ⌜ control .count ≤ 4 ⌝ ∗ ⌜ control .turn < 4 ⌝ }
+    requires { ⌜ 169 ≤ length (now chip) ⌝ ∗ ⌜ control .count ≤ 4 ⌝ ∗ ⌜ control .turn < 4 ⌝ }
     ensures { λ _. ⌜ state-of (now (chip .exit)) ≡ with-shared (state-of (now (chip .entry))) control ⌝ }
 {
     write_control(&mut chip[144..169], control);

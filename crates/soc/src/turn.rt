@@ -3,13 +3,13 @@ ghost use mathlib.Core.List.{[], _∷_};
 ghost use mathlib.Core.Path.{_≡_};
 ghost use Prim.Native.Nat.{ℕ, _<_, _≤_};
 ghost use Rattle.std.specs.Results.{Cases as ByOk};
-ghost use Rattle.std.specs.declared.option.Option.the-variants.{None as nothing, Some as just};
+ghost use Rattle.std.specs.declared.option.Option.the-variants.{None, Some};
 ghost use Rattle.rv32.specs.Execute.{did, one};
 ghost use Rattle.rv32.specs.Laws.{Supplied};
 ghost use Rattle.cores.specs.Ports.{line-of, somes};
-ghost use Rattle.soc.specs.Buffers.{holds as held, lacks-data, lies-in, line-in, words-of};
+ghost use Rattle.soc.specs.Buffers.{holds, lacks-data, lies-in, line-in, words-of};
 ghost use Rattle.soc.specs.Rv.{word-of};
-ghost use Rattle.soc.specs.Soc.{cpu-after, on-after, spoken as spoken-by, written as written-by};
+ghost use Rattle.soc.specs.Soc.{cpu-after, on-after, spoken, written};
 ghost use Rattle.soc.specs.Turn.{filled, lacked, turned, words-in};
 use crate::control::Control;
 use cores::port::Line;
@@ -19,7 +19,7 @@ use rv32::core::Need;
 use rv32::decode::decoded;
 
 fn holds(buffer: Option<Line>, a: u32) -> bool
-    ensures { λ r. ⌜ r ≡ held buffer a ⌝ }
+    ensures { λ r. ⌜ r ≡ holds buffer a ⌝ }
 {
     match buffer {
         Some(line) => line.number == a,
@@ -27,7 +27,7 @@ fn holds(buffer: Option<Line>, a: u32) -> bool
     }
 }
 
-fn eight(buffer: Option<Line>) -> [u32; 8]
+fn words_of(buffer: Option<Line>) -> [u32; 8]
     ensures { λ r. ⌜ r ≡ words-of buffer ⌝ }
 {
     match buffer {
@@ -37,7 +37,7 @@ fn eight(buffer: Option<Line>) -> [u32; 8]
 }
 
 // Whether a word that is named lies in line a.
-fn is_in(number: Option<u32>, a: u32) -> bool
+fn lies_in(number: Option<u32>, a: u32) -> bool
     ensures { λ r. ⌜ r ≡ lies-in number a ⌝ }
 {
     match number {
@@ -52,9 +52,9 @@ impl Control {
         ensures { λ r. ⌜ r ≡ line-in (self .fetched) (self .loaded) a ⌝ }
     {
         if holds(self.fetched, a) {
-            eight(self.fetched)
+            words_of(self.fetched)
         } else {
-            eight(self.loaded)
+            words_of(self.loaded)
         }
     }
 
@@ -66,7 +66,7 @@ impl Control {
 
     // The word that an instruction needs, or 0; or the line that it lies in, if no buffer has it.
     fn operand(self, need: Need) -> Result<u32, u32>
-        ensures { λ r. ⌜ ByOk r (λ x. (lacks-data (word-of need) (self .fetched) (self .loaded) ≡ nothing) × Supplied (words-in self) x need) (λ a. lacks-data (word-of need) (self .fetched) (self .loaded) ≡ just a) ⌝ }
+        ensures { λ r. ⌜ ByOk r (λ x. (lacks-data (word-of need) (self .fetched) (self .loaded) ≡ None) × Supplied (words-in self) x need) (λ a. lacks-data (word-of need) (self .fetched) (self .loaded) ≡ Some a) ⌝ }
     {
         match need {
             Need::Nothing => Ok(0),
@@ -83,22 +83,22 @@ impl Control {
 
     // What the next instruction of a core does; or the line that it lacks.
     pub(crate) fn attempt(self, core: Core) -> Result<Effect, u32>
-        ensures { λ r. ⌜ ByOk r (λ e. (lacked self core ≡ nothing) × (did e ≡ one (self .lines) core (words-in self))) (λ a. lacked self core ≡ just a) ⌝ }
+        ensures { λ r. ⌜ ByOk r (λ e. (lacked self core ≡ None) × (did e ≡ one (self .size) core (words-in self))) (λ a. lacked self core ≡ Some a) ⌝ }
     {
-        let Some(number) = core.fetches(self.lines) else {
+        let Some(number) = core.fetches(self.size) else {
             return Ok(Effect::Stops);
         };
         if !holds(self.fetched, number / 8) {
             return Err(number / 8);
         }
         let instruction = decoded(self.word(number));
-        let word = self.operand(core.needs(self.lines, instruction))?;
-        Ok(core.executes(self.lines, instruction, word))
+        let word = self.operand(core.needs(self.size, instruction))?;
+        Ok(core.executes(self.size, instruction, word))
     }
 
     // The line that an instruction writes: the one that it stores to, with the word stored.
     pub(crate) fn written(self, effect: Effect) -> Option<Line>
-        ensures { λ r. ⌜ somes line-of (r ∷ []) ≡ written-by (self .fetched) (self .loaded) (did effect) ⌝ }
+        ensures { λ r. ⌜ somes line-of (r ∷ []) ≡ written (self .fetched) (self .loaded) (did effect) ⌝ }
     {
         match effect {
             Effect::Stores { number, value, .. } => {
@@ -117,7 +117,7 @@ impl Control {
     pub(crate) fn with_line(self, code: Option<u32>, line: Line) -> Self
         ensures { λ r. ⌜ r ≡ filled self code line ⌝ }
     {
-        if is_in(code, line.number) {
+        if lies_in(code, line.number) {
             Control {
                 fetched: Some(line),
                 asked: None,
@@ -171,7 +171,7 @@ pub(crate) fn goes_on(effect: Effect) -> bool
 
 // The word that is said.
 pub(crate) fn spoken(effect: Effect) -> Option<u32>
-    ensures { λ r. ⌜ ((k : ℕ) → somes (λ x. (k, x)) (r ∷ []) ≡ spoken-by k (did effect)) ⌝ }
+    ensures { λ r. ⌜ ((k : ℕ) → somes (λ x. (k, x)) (r ∷ []) ≡ spoken k (did effect)) ⌝ }
 {
     match effect {
         Effect::Says { word, .. } => Some(word),

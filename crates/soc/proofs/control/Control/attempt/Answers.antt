@@ -10,13 +10,13 @@ use Rattle.soc.proofs.control.Control.attempt.Needs as need
 
 pub returns-in-rest : need.returns-in-rest
 returns-in-rest c =
-    let e : fetch (c .args .self .lines) (c .args .core) ≡ None = sym (c .fetches .ensures .value) ∙ c .in-rest .is in
-    (none-lacked (c .args .self) (c .args .core) e, sym (not-done (c .args .self .lines) (c .args .core) (words-in (c .args .self)) e))
+    let e : fetch (c .args .self .size) (c .args .core) ≡ None = sym (c .fetches .ensures .value) ∙ c .in-rest .is in
+    (none-lacked (c .args .self) (c .args .core) e, sym (not-done (c .args .self .size) (c .args .core) (words-in (c .args .self)) e))
 
 pub returns : need.returns
 returns c =
     let s = c .args .self in
-    let e : fetch (s .lines) (c .args .core) ≡ Some (c .in-Some .number) = sym (c .fetches .ensures .value) ∙ c .in-Some .is in
+    let e : fetch (s .size) (c .args .core) ≡ Some (c .in-Some .number) = sym (c .fetches .ensures .value) ∙ c .in-Some .is in
     let i = c .decoded-instruction .result in
     let p : i ≡ decode (words-in s (c .in-Some .number)) = c .decoded-instruction .ensures ∙ ap decode (c .word .ensures) in
     let had = c .in-Continue-word .ensures tt in (

@@ -8,7 +8,7 @@ use Rattle.soc.specs.Layout.{state-of}
 use Rattle.soc.specs.Rv.{rv}
 use Rattle.soc.specs.Soc.{take-interrupt}
 use Rattle.soc.specs.Turn.{Empty-from, only-did}
-use Rattle.soc.proofs.cycle.interrupts.Given as given
+use Rattle.soc.proofs.cycle.take_interrupts.Given as given
 
 abbrev pub Inv-loop-k : given.InvT-loop-k
 Inv-loop-k l =

@@ -12,7 +12,7 @@ use Rattle.soc.specs.Rv.{rv}
 use Rattle.soc.specs.Soc.{take-interrupt}
 use Rattle.soc.specs.Turn.{only-did}
 use Rattle.soc.proofs.Outs.{each-more, empty-row, empty-set, somes-set}
-use Rattle.soc.proofs.cycle.interrupts.Needs as need
+use Rattle.soc.proofs.cycle.take_interrupts.Needs as need
 
 pub loop-k-holds : need.loop-k-holds
 unfolding each
@@ -21,11 +21,11 @@ loop-k-holds c = (refl, λ j h. empty-row 8 j, refl, refl)
 pub loop-k-again : need.loop-k-again
 loop-k-again c =
     let i = c .loop-k .inv in
-    let more = each-more (take-interrupt rv (λ j. getD (c .args .up) j false)) (c .loop-k .k) (state-of (c .args .chip .now)) (state-of (c .loop-k .chip)) _ _ _ (i .2) (i .3) (c .interrupt .ensures .state) (c .interrupt .ensures .out) in (
-      length-set (c .loop-k .did) (c .loop-k .k) (c .interrupt .result) ∙ i .0,
-      empty-set (c .loop-k .did) (c .loop-k .k) (c .interrupt .result) (i .1),
+    let more = each-more (take-interrupt rv (λ j. getD (c .args .up) j false)) (c .loop-k .k) (state-of (c .args .chip .now)) (state-of (c .loop-k .chip)) _ _ _ (i .2) (i .3) (c .take-interrupt .ensures .state) (c .take-interrupt .ensures .out) in (
+      length-set (c .loop-k .did) (c .loop-k .k) (c .take-interrupt .result) ∙ i .0,
+      empty-set (c .loop-k .did) (c .loop-k .k) (c .take-interrupt .result) (i .1),
       ap (λ x. x .0) more,
-      ap only-did (somes-set event-of (c .loop-k .did) (c .loop-k .k) (c .interrupt .result) (omega arith) (i .1)) ∙ ap (λ x. x .1) more,
+      ap only-did (somes-set event-of (c .loop-k .did) (c .loop-k .k) (c .take-interrupt .result) (omega arith) (i .1)) ∙ ap (λ x. x .1) more,
     )
 
 pub returns : need.returns
