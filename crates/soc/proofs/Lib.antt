@@ -7,3 +7,6 @@ pub mod Rank
 pub mod Turns
 pub mod Rv
 pub mod Owed
+pub mod Regions
+pub mod Attempt
+pub mod Outs

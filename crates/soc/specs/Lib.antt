@@ -4,3 +4,5 @@ pub mod Rv
 pub mod Buffers
 pub mod Soc
 pub mod Runs
+pub mod Layout
+pub mod Turn

@@ -1,2 +1,6 @@
 // The chip: its cores take turns at the memory, and the core whose turn it is has two line buffers.
+pub mod control;
+pub mod cycle;
 pub mod promises;
+pub mod state;
+pub mod turn;
