@@ -62,7 +62,10 @@ fn note(
         }
         Outcome::NotLet => {
             tally.reported = true;
-            eprintln!(rt, "line {line}: core {k} takes an interrupt where it is not let")?;
+            eprintln!(
+                rt,
+                "line {line}: core {k} takes an interrupt where it is not let"
+            )?;
         }
     }
     Ok(())
@@ -125,14 +128,30 @@ fn do_events(
     let mut line: u64 = 1;
     for letter in text {
         if *letter == b'\n' {
-            do_row(rt, machines, memory, row.as_slice(), &mut outcomes, tally, line)?;
+            do_row(
+                rt,
+                machines,
+                memory,
+                row.as_slice(),
+                &mut outcomes,
+                tally,
+                line,
+            )?;
             row.clear();
             line = line.saturating_add(1);
         } else {
             row.push(event_at(heap, *letter, cores, line)?)?;
         }
     }
-    do_row(rt, machines, memory, row.as_slice(), &mut outcomes, tally, line)
+    do_row(
+        rt,
+        machines,
+        memory,
+        row.as_slice(),
+        &mut outcomes,
+        tally,
+        line,
+    )
 }
 
 // Whether all machines have stopped.
@@ -160,9 +179,21 @@ fn do_turns(
             break;
         }
         if k < 4 && machines.machines[k].on {
-            do_row(rt, machines, memory, &[Event::Step(k)], &mut outcomes, tally, turn)?;
+            do_row(
+                rt,
+                machines,
+                memory,
+                &[Event::Step(k)],
+                &mut outcomes,
+                tally,
+                turn,
+            )?;
         }
-        k = if k < 3 && k + 1 < machines.count { k + 1 } else { 0 };
+        k = if k < 3 && k + 1 < machines.count {
+            k + 1
+        } else {
+            0
+        };
     }
     Ok(())
 }
@@ -175,7 +206,15 @@ fn summary(rt: &LibcRuntime, machines: &Machines, tally: &Tally) -> Result<(), A
             print!(rt, " {done}")?;
         }
     }
-    println!(rt, " {}", if all_stopped(machines) { "stopped" } else { "running" })?;
+    println!(
+        rt,
+        " {}",
+        if all_stopped(machines) {
+            "stopped"
+        } else {
+            "running"
+        }
+    )?;
     Ok(())
 }
 
@@ -189,9 +228,17 @@ fn save(rt: &LibcRuntime, cores: usize, memory: &[u32], path: &str) -> Result<()
     Ok(())
 }
 
+// The bytes of a file, or an error that names it.
+fn bytes_of(rt: &LibcRuntime, path: &str) -> Result<Vec<u8>, AnyError> {
+    match fs::read(rt, path) {
+        Ok(bytes) => Ok(bytes),
+        Err(e) => Err(format!(rt.alloc(), "cannot read {path}: {e}")?.into()),
+    }
+}
+
 // Whether all went without a refusal or a report.
 fn run(rt: &LibcRuntime, options: &Options) -> Result<bool, AnyError> {
-    let bytes = fs::read(rt, options.memory.as_str())?;
+    let bytes = bytes_of(rt, options.memory.as_str())?;
     let header = match read_header(bytes.as_slice()) {
         Ok(header) => header,
         Err(refusal) => {
@@ -211,7 +258,7 @@ fn run(rt: &LibcRuntime, options: &Options) -> Result<bool, AnyError> {
     };
     match &options.source {
         Source::Events(path) => {
-            let text = fs::read(rt, path.as_str())?;
+            let text = bytes_of(rt, path.as_str())?;
             do_events(rt, &mut machines, memory, text.as_slice(), &mut tally)?;
         }
         Source::Turns(turns) => do_turns(rt, &mut machines, memory, *turns, &mut tally)?,

@@ -3,6 +3,7 @@ use crate::Vector;
 
 // The data word before each instruction, and where it stands.
 pub const DATA: u32 = 0x80ff7f01;
+
 pub const PC: u32 = 0x100;
 
 pub const TABLE: [Vector; 102] = [

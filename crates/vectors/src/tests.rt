@@ -39,7 +39,16 @@ fn stops(word: u32, x5: u32) -> bool {
 #[test]
 fn other_words_stop() -> Result<(), Fail> {
     for word in [
-        0x00000073, 0x00100073, 0, 0x026283b3, 0x30529073, 0x0000100f, 0x1002a3af, 0x0002e383, 0x02129393, 0x606283b3,
+        0x00000073,
+        0x00100073,
+        0,
+        0x026283b3,
+        0x30529073,
+        0x0000100f,
+        0x1002a3af,
+        0x0002e383,
+        0x02129393,
+        0x606283b3,
     ] {
         check(stops(word, 64)).note("a word that is no instruction here")?;
     }
@@ -49,7 +58,17 @@ fn other_words_stop() -> Result<(), Fail> {
 // lw x7, 0(x5), lh x7, 0(x5), sw x6, 0(x5), amoadd.w x7, x6, (x5): addresses that are no multiple of the size, past the end, or of a device.
 #[test]
 fn wrong_addresses_stop() -> Result<(), Fail> {
-    for address in [1, 2, 3, 1024, 0x3fffffff, 0x40000000, 0x40000004, 0x4000000c, 0xfffffffc] {
+    for address in [
+        1,
+        2,
+        3,
+        1024,
+        0x3fffffff,
+        0x40000000,
+        0x40000004,
+        0x4000000c,
+        0xfffffffc,
+    ] {
         check(stops(0x0002a383, address)).note("lw")?;
     }
     check(stops(0x00029383, 1)).note("lh")?;
