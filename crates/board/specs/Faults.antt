@@ -28,11 +28,11 @@ short n words = cond (ltb (length words) (8 * n + 1024)) (Some Short) None
 abbrev pub outside : ℕ → List ℕ → Option Fault
 outside n xs = cond (inside n xs) None (Some Outside)
 
--- so many would wait
+-- there is no place for so many to wait
 abbrev pub full : ℕ → Option Fault
 full count = cond (ltb 16 count) (Some Full) None
 
--- what is wrong with a board
+-- what is wrong with a board: it is too short, or a line outside memory waits
 abbrev pub unsound : ℕ → List ℕ → Option Fault
 unsound n words = or-else (short n words) (outside n (waiting-of n words))
 
@@ -40,6 +40,6 @@ unsound n words = or-else (short n words) (outside n (waiting-of n words))
 abbrev pub astray : ℕ → Out → Option Fault
 astray n o = or-else (outside n (asks-of o)) (outside n (somes (λ (l : Line). l .number) (o .writes)))
 
--- what is wrong with a cycle in which a chip puts out o, and so many are left of those that waited
+-- what is wrong with a cycle in which a chip puts out o, where so many are left of those that waited
 abbrev pub unfit : ℕ → List ℕ → Out → ℕ → Option Fault
 unfit n words o left = or-else (unsound n words) (or-else (astray n o) (full (left + length (asks-of o))))

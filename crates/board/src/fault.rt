@@ -1,9 +1,11 @@
 // Why a board refuses.
 
-// The lent words are too few; the row would have more than sixteen places; a line outside memory waits, is asked for or is written.
 #[derive(Clone, Copy, PartialEq, Eq, Debug)]
 pub enum Fault {
+    // The lent words don't suffice for memory and the row.
     Short,
+    // More than sixteen lines would wait.
     Full,
+    // A line outside memory waits, is asked for or is written.
     Outside,
 }

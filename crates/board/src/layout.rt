@@ -57,7 +57,7 @@ pub(crate) fn row_at(board: &[u32], lines: usize) -> Row
     requires { ⌜ 8 * lines + 1024 ≤ length (now board) ⌝ }
     ensures { λ r. ⌜ items-of r ≡ row-of lines (now (board .entry)) ⌝ ∗ ⌜ r .count ≤ 16 ⌝ }
 {
-    read_row(&board[8 * lines..8 * lines + 1024])
+    read_row(&board[8 * lines..8 * lines + ROW])
 }
 
 // The row becomes the one given; memory stays.
@@ -65,7 +65,7 @@ pub(crate) fn put_row(board: &mut [u32], lines: usize, row: Row)
     requires { ⌜ 8 * lines + 1024 ≤ length (now board) ⌝ ∗ ⌜ row .count ≤ 16 ⌝ }
     ensures { λ _. ⌜ row-of lines (now (board .exit)) ≡ items-of row ⌝ ∗ ⌜ memory-of lines (now (board .exit)) ≡ memory-of lines (now (board .entry)) ⌝ }
 {
-    write_row(&mut board[8 * lines..8 * lines + 1024], row);
+    write_row(&mut board[8 * lines..8 * lines + ROW], row);
 }
 
 // A line of memory, with its number.

@@ -75,7 +75,7 @@ fn finish(board: &mut [u32], lines: usize, row: Row, out: &Out, left: u32) -> Re
     Ok(())
 }
 
-// The same, for the row without the places given.
+// The same for the row without the places given, as far as the lent words go.
 fn finish_given(board: &mut [u32], lines: usize, places: &[u8], out: &Out) -> Result<(), Fault>
     ensures fault { λ r. ⌜ errPart r ≡ unfit lines (now (board .entry)) (now (out .entry)) (length (kept (now (places .entry)) 0 (waiting-of lines (now (board .entry))))) ⌝ }
     ensures memory { λ r. ⌜ made r (λ _. memory-of lines (now (board .exit)) ≡ with-lines (memory-of lines (now (board .entry))) (writes-of (now (out .entry)))) ⌝ }
@@ -139,5 +139,18 @@ mod tests {
         after(&mut words, 2, &[0], &puts_out(None, Some(write)))?;
         check(given(&words, 2, &[0])?[0].is_none())?;
         check_eq(words.get(15).copied(), Some(7))
+    }
+
+    // On the steady board a line comes as many cycles after the next as was said; a line outside memory is refused.
+    #[test]
+    fn a_line_comes_in_time(rt: LibcRuntime) -> Result<(), Fail> {
+        let mut words = vec![in rt.alloc(); 0; 1040]?;
+        start(&mut words, 2)?;
+        after_steady(&mut words, 2, 1, &puts_out(Some(0), None))?;
+        check(due(&words, 2)?[0].is_none())?;
+        after_steady(&mut words, 2, 1, &puts_out(None, None))?;
+        check(due(&words, 2)?[0].is_some())?;
+        let refused = after_steady(&mut words, 2, 1, &puts_out(Some(2), None));
+        check(matches!(refused, Err(Fault::Outside)))
     }
 }
