@@ -8,7 +8,7 @@ use native.Mathlib.Omega.{arith}
 use lib.Dec.{ltb}
 use lib.ListN.{length, getD, set, length-set, List·getD-eq-default}
 use lib.Seq.{getD-set-other}
-use Rattle.rv32.specs.Did.{Did, goes, stores, says, stops}
+use Rattle.rv32.specs.Did.{Did, goes, stores, says, stops, cpu-after, on-after}
 use Rattle.cores.specs.Machines.{word, Event, step, interrupt, steps, interrupts, Isa, Core, Manual, core, after, event, events, fresh-cores, begins, manual-after}
 use Rattle.cores.specs.Put.{put}
 use Rattle.cores.specs.Owed.{Allowed}
@@ -25,19 +25,6 @@ unfolding steps
 steps-append k [] ys = omega arith
 steps-append k (step j ∷ xs) ys = let ih = steps-append k xs ys in grind arith
 steps-append k (interrupt j ∷ xs) ys = steps-append k xs ys
-
--- a core after an instruction: its registers, and whether it goes on
-abbrev pub cpu-after : {A : Type 0} → A → Did A → A
-cpu-after c (goes d) = d
-cpu-after c (stores a x d) = d
-cpu-after c (says x d) = d
-cpu-after c stops = c
-
-abbrev pub on-after : {A : Type 0} → Did A → Bool
-on-after (goes d) = true
-on-after (stores a x d) = true
-on-after (says x d) = true
-on-after stops = false
 
 module _ (I : Isa) where
   abbrev on : Manual I → ℕ → Bool

@@ -8,7 +8,7 @@ use lib.Dec.{eqb, ltb}
 use lib.ListN.{length, getD, length-set}
 use Rattle.std.specs.declared.option.Option.{Option}
 use Rattle.std.specs.declared.option.Option.the-variants.{Some, None}
-use Rattle.rv32.specs.Did.{Did, goes, stores, says, stops}
+use Rattle.rv32.specs.Did.{Did, goes, stores, says, stops, cpu-after, on-after}
 use Rattle.cores.specs.Machines.{interrupt, word, with-word, Core, Manual, core, after, events, begins}
 use Rattle.cores.specs.Board.{Out, with-lines, among, handed, kept}
 use Rattle.cores.specs.Promise.{Memory}
@@ -16,11 +16,10 @@ use Rattle.cores.specs.Put.{put}
 use Rattle.cores.specs.Loop.{silent, each}
 use Rattle.cores.proofs.Basics.{by-test, choose, same, less, not-less, append-nil, set-put, with-lines-length}
 use Rattle.cores.proofs.Machines.{did-step, did-interrupt, after-core, after-many, fresh-many, fresh-core}
-use Rattle.cores.proofs.Machines as machines
 use Rattle.cores.proofs.Loop.{After as After-of, Keeps as Keeps-of, stay-keeps as stay-keeps-of, then-keeps, each-keeps}
 use Rattle.soc.specs.Kind.{needed, Within, Kind, Laws, Leaves}
 use Rattle.soc.specs.Buffers.{line-in, lies-in}
-use Rattle.soc.specs.Soc.{following, cpu-after, on-after, written, spoken, State, fresh, mine, seen, code-word, data-word, code-lack, data-lack, lacks, placed, received, takes, entered, take-interrupt, finish, ask, skip, try, act-while, act, cycle}
+use Rattle.soc.specs.Soc.{following, written, spoken, State, fresh, mine, seen, code-word, data-word, code-lack, data-lack, lacks, placed, received, takes, entered, take-interrupt, finish, ask, skip, try, act-while, act, cycle}
 use Rattle.soc.proofs.Lines.{Good, row, Below, line-good, data-here, code-agree, data-agree, first-none, below-lacks, memory-store, memory-words}
 
 following-small : (n t : ℕ) → t < n → following n t < n
@@ -39,19 +38,6 @@ put-has P f k x j p q = choose P (eqb j k) x (f j) (λ _. p) (λ _. q)
 -- a value that is there already
 pub put-same : {A : Type 0} (f : ℕ → A) (k : ℕ) (x : A) (j : ℕ) → f k ≡ x → put f k x j ≡ f j
 put-same {A} f k x j e = choose (λ (v : A). v ≡ f j) (eqb j k) x (f j) (λ t. sym e ∙ ap f (sym (same j k t))) (λ _. refl)
-
--- a core after an instruction, as the machines have it
-cpu-same : {Cpu : Type 0} (c : Cpu) (d : Did Cpu) → machines.cpu-after c d ≡ cpu-after c d
-cpu-same c (goes d) = refl
-cpu-same c (stores y v d) = refl
-cpu-same c (says x d) = refl
-cpu-same c stops = refl
-
-on-same : {Cpu : Type 0} (d : Did Cpu) → machines.on-after d ≡ on-after d
-on-same (goes d) = refl
-on-same (stores y v d) = refl
-on-same (says x d) = refl
-on-same stops = refl
 
 module _ (κ : Kind) where
   abbrev pub Man : Type 0
@@ -167,7 +153,7 @@ module _ (κ : Kind) where
           core (κ .isa) (after (κ .isa) μ k d) j ≡ record { cpu = put (h .cpu) k (cpu-after (h .cpu k) d) j; on = put (h .on) k (on-after d) j }
       after-cores d k j l i =
           after-core (κ .isa) μ k d j (rw (g .many) l)
-          ∙ rw (cpu-same (core (κ .isa) μ k .cpu) d, on-same d, cpu-in k l) (core-put (core (κ .isa) μ) (h .cpu) (h .on) k (cpu-after (h .cpu k) d) (on-after d) j (g .cores j i))
+          ∙ rw (cpu-in k l) (core-put (core (κ .isa) μ) (h .cpu) (h .on) k (cpu-after (h .cpu k) d) (on-after d) j (g .cores j i))
 
       finish-keeps : (d : Did Cpu) → h .on (h .turn) ≡ true → h .asked ≡ None → κ .isa .one (h .size) (mine κ h) (word m) ≡ d → Fits d → After (finish κ d h) m w s μ
       finish-keeps d o q e f =

@@ -7,7 +7,7 @@ use lib.Dec.{ltb}
 use lib.ListN.{set}
 use Rattle.std.specs.declared.option.Option.{Option}
 use Rattle.std.specs.declared.option.Option.the-variants.{Some, None}
-use Rattle.rv32.specs.Did.{Did, goes, stores, says, stops}
+use Rattle.rv32.specs.Did.{Did, goes, stores, says, stops, cpu-after, on-after}
 use Rattle.cores.specs.Machines.{pick, step, interrupt}
 use Rattle.cores.specs.Board.{Out, Chip}
 use Rattle.cores.specs.Put.{put}
@@ -19,20 +19,6 @@ use Rattle.soc.specs.Buffers.{line-in, word-in, lies-in, lacks-code, lacks-dat
 -- whose turn is next, of n
 abbrev pub following : ℕ → ℕ → ℕ
 following n t = pick (ltb (t + 1) n) (t + 1) 0
-
--- a core's registers after an instruction
-abbrev pub cpu-after : {Cpu : Type 0} → Cpu → Did Cpu → Cpu
-cpu-after c (goes d) = d
-cpu-after c (stores y v d) = d
-cpu-after c (says x d) = d
-cpu-after c stops = c
-
--- whether it goes on
-abbrev pub on-after : {Cpu : Type 0} → Did Cpu → Bool
-on-after (goes d) = true
-on-after (stores y v d) = true
-on-after (says x d) = true
-on-after stops = false
 
 -- the line that is written through to memory, with the word that was stored
 abbrev pub written : {Cpu : Type 0} → Option Line → Option Line → Did Cpu → List (ℕ × List ℕ)
