@@ -24,8 +24,8 @@ fn after(v: Vector) -> Option<(u32, u32, u32)> {
 
 #[test]
 fn instructions_do_what_another_machine_does() -> Result<(), Fail> {
-    for v in TABLE {
-        check_eq(after(v), Some((v.x7, v.data, v.pc)))?;
+    for v in &TABLE {
+        check_eq(after(*v), Some((v.x7, v.data, v.pc)))?;
     }
     Ok(())
 }
