@@ -1,3 +1,4 @@
+-- The lines at the places passed so far.
 use mathlib.Core.List.{map}
 use lib.ListN.{take}
 use Rattle.cores.specs.Board.{handed}

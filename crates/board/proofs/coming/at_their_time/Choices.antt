@@ -1,3 +1,4 @@
+-- The lines passed so far whose time has come.
 use mathlib.Core.List.{map}
 use lib.ListN.{take}
 use Rattle.cores.specs.Board.{due}

@@ -1,3 +1,4 @@
+-- The places read so far.
 use mathlib.Core.Path.{_≡_}
 use mathlib.Core.List.{map}
 use Rattle.std.specs.Iters.{counting}

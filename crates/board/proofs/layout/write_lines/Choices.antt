@@ -1,3 +1,4 @@
+-- Memory with the lines written so far, and the row as it was.
 use mathlib.Core.Path.{_≡_}
 use lib.ListN.{drop}
 use Rattle.cores.specs.Board.{with-lines}

@@ -1,3 +1,4 @@
+-- The places written so far.
 use mathlib.Core.Path.{_≡_}
 use mathlib.Core.List.{map}
 use lib.ListN.{length, take}

@@ -1,3 +1,4 @@
+-- None of the places passed so far is it.
 use mathlib.Core.Path.{_≡_}
 use mathlib.Core.Bool.{false}
 use lib.ListN.{drop}

@@ -1,3 +1,4 @@
+-- The shut definition is the open one.
 use Rattle.image.specs.Check.{check-of}
 use Rattle.image.proofs.accept.check.Needs as need
 

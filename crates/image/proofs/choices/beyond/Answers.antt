@@ -1,3 +1,4 @@
+-- A byte with no bit from the number of cores on.
 use mathlib.Core.Path.{_∙_, sym}
 use native.Mathlib.Omega.{arith}
 use Rattle.std.proofs.shelf.Tests.{le-ltb}

@@ -1,3 +1,4 @@
+-- What the scan counts is how many cycles there are.
 use mathlib.Core.Path.{_∙_}
 use Rattle.image.proofs.Sound.{scan-counts, scan-cases}
 use Rattle.image.proofs.choices.count_cycles.Needs as need

@@ -1,3 +1,4 @@
+-- The record at a place is the first of the cycles from there on.
 use Rattle.image.proofs.Cycles.{cycles-cut, cycles-more, weaker}
 use Rattle.image.proofs.choices.cycle_at.Needs as need
 

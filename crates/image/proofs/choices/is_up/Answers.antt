@@ -1,3 +1,4 @@
+-- Bit k of the byte, by a shift.
 use mathlib.Core.Path.{_∙_, sym}
 use native.Mathlib.Omega.{arith}
 use Rattle.std.proofs.shelf.Tests.{le-ltb}

@@ -1,3 +1,4 @@
+-- Each byte takes the reader one state on; after the last it has ended or was cut short.
 use native.Mathlib.Omega.{arith}
 use mathlib.Core.Path.{_∙_}
 use Prim.Native.Nat.{_<_}

@@ -1,3 +1,4 @@
+-- The reader has come as far as the bytes passed so far bring it.
 use mathlib.Core.Path.{_≡_}
 use lib.ListN.{drop}
 use Rattle.image.specs.Choices.{reading, scan}

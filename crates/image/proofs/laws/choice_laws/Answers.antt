@@ -1,3 +1,4 @@
+-- The laws of choices.
 use Rattle.image.proofs.Sound.{all-written, only-written, first-fault}
 use Rattle.image.proofs.Bits.{others-down}
 use Rattle.image.proofs.laws.choice_laws.Needs as need

@@ -1,3 +1,4 @@
+-- The laws of memories.
 use Rattle.image.proofs.Front.{all-taken, only-taken, judged, written-read}
 use Rattle.image.proofs.Words.{words-by-place}
 use Rattle.image.proofs.laws.memory_laws.Needs as need

@@ -1,3 +1,4 @@
+-- The bytes after the front are the words.
 use borrow.Author.Needs.{needs}
 use Rattle.image.proofs.Words.{words-of-memory}
 use Rattle.image.proofs.memory.load.Needs as need

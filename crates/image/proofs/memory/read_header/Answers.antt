@@ -1,3 +1,4 @@
+-- The shut definition is the open one.
 use Rattle.image.specs.Memory.{header-of}
 use Rattle.image.proofs.memory.read_header.Needs as need
 

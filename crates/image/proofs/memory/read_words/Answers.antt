@@ -1,3 +1,4 @@
+-- Each turn reads one word more.
 use native.Mathlib.Omega.{arith}
 use Rattle.image.proofs.Words.{read-more, rest-more, read-all}
 use Rattle.image.proofs.memory.read_words.Needs as need

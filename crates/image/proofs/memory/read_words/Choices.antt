@@ -1,3 +1,4 @@
+-- The words read so far stand in front of those not written yet.
 use mathlib.Core.List.{_++_}
 use mathlib.Core.Path.{_≡_}
 use Prim.Native.Nat.{_*_}

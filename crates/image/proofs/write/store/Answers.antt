@@ -1,3 +1,4 @@
+-- The front and then the words.
 use borrow.Author.Needs.{needs}
 use Rattle.image.proofs.Writes.{image-written}
 use Rattle.image.proofs.write.store.Needs as need

@@ -1,3 +1,4 @@
+-- The bytes of the words written so far stand between the front and those not written yet.
 use mathlib.Core.List.{_++_}
 use mathlib.Core.Path.{_≡_}
 use Prim.Native.Nat.{_+_, _*_}

@@ -1,3 +1,4 @@
+-- The lines passed so far lie inside memory.
 use mathlib.Core.Path.{_≡_}
 use mathlib.Core.Bool.{true}
 use mathlib.Core.List.{map}

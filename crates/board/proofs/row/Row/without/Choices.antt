@@ -1,3 +1,4 @@
+-- Those passed so far that go on waiting.
 use mathlib.Core.Path.{_≡_}
 use mathlib.Core.List.{map}
 use Prim.Native.Nat.{_≤_}
