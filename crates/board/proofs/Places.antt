@@ -9,11 +9,11 @@ use lib.ListN.{length, getD, set, take, drop}
 use Rattle.std.specs.Iters.{counting}
 use Rattle.std.proofs.shelf.Counted.{fill-by-all, getD-map-counting, length-map-counting, map-counting-more}
 use Rattle.std.proofs.shelf.Lists.{drop-take, getD-set-other, getD-set-same, length-set, take-at, take-more, take-take}
-use Rattle.std.proofs.shelf.Parts.{take-putMid-below}
+use Rattle.std.proofs.shelf.Parts.{drop-putMid, take-putMid-below}
 use Rattle.words.specs.Parts.{block, lines, part, put}
 use Rattle.words.proofs.Lines.{line-written}
 use Rattle.words.proofs.Parts.{part-here, part-other}
-use Rattle.board.specs.Layout.{place, row-in, row-of}
+use Rattle.board.specs.Layout.{beyond, place, row-in, row-of}
 use Rattle.board.specs.declared.row.Waiting.{Waiting}
 use Rattle.board.proofs.Rows.{nobody}
 
@@ -54,17 +54,19 @@ lines-front zero w = refl
 lines-front (suc n) w =
     ap₂ _∷_ (take-take 8 (8 * suc n) w (omega arith)) (ap (lines n) (ap (λ m. drop 8 (take m w)) (omega arith) ∙ drop-take 8 (8 * n) w) ∙ lines-front n (drop 8 w))
 
--- the row's words written: it has the new row, and memory stays
-pub row-written : (n k : ℕ) (w ys : List ℕ) → 8 * n + 1024 ≤ length w → length ys ≡ 1024 → (row-of n (putMid (8 * n) k w ys) ≡ row-in ys) × (lines n (putMid (8 * n) k w ys) ≡ lines n w)
+-- the row's words written: it has the new row, and all else stays
+pub row-written : (n k : ℕ) (w ys : List ℕ) → 8 * n + 1024 ≤ length w → k ≡ 1024 → length ys ≡ 1024 →
+    (row-of n (putMid (8 * n) k w ys) ≡ row-in ys) × (lines n (putMid (8 * n) k w ys) ≡ lines n w) × (beyond n (putMid (8 * n) k w ys) ≡ beyond n w)
 unfolding row-of
-row-written n k w ys h e = (
+row-written n k w ys h f e = (
   ap row-in (part-here (8 * n) 1024 k w ys e h),
   sym (lines-front n (putMid (8 * n) k w ys)) ∙ ap (lines n) (take-putMid-below (8 * n) k w ys (8 * n) (omega arith) (omega arith)) ∙ lines-front n w,
+  drop-putMid (8 * n) k w ys (8 * n + 1024) (omega arith) (omega arith) (e ∙ sym f),
 )
 
--- memory's words written: the row stays, and line i is the new one
+-- memory's words written: line i is the new one, and all else stays
 pub memory-written : (n i k : ℕ) (w ys line : List ℕ) → 8 * n + 1024 ≤ length w → k ≡ 8 * n → length ys ≡ k → i < n → block 8 ys ≡ put (block 8 (take k w)) i line →
-    (lines n (putMid 0 k w ys) ≡ set (lines n w) i line) × (row-of n (putMid 0 k w ys) ≡ row-of n w)
+    (lines n (putMid 0 k w ys) ≡ set (lines n w) i line) × (row-of n (putMid 0 k w ys) ≡ row-of n w) × (beyond n (putMid 0 k w ys) ≡ beyond n w)
 unfolding row-of
 memory-written n i k w ys line h f e l t = (
   sym (lines-front n (putMid 0 k w ys))
@@ -72,4 +74,5 @@ memory-written n i k w ys line h f e l t = (
       ∙ line-written n i (take k w) ys line l t
       ∙ ap (λ (m : List (List ℕ)). set m i line) (ap (λ m. lines n (take m w)) f ∙ lines-front n w),
   ap row-in (part-other (8 * n) 1024 0 k w ys e (omega arith) (inr (omega arith))),
+  drop-putMid 0 k w ys (8 * n + 1024) (omega arith) (omega arith) e,
 )

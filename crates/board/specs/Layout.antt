@@ -2,7 +2,7 @@
 -- Assumes nothing: these are definitions.
 use mathlib.Core.List.{List, map}
 use Prim.Native.Nat.{ℕ, _+_, _*_, min}
-use lib.ListN.{getD}
+use lib.ListN.{drop, getD}
 use Rattle.std.specs.Iters.{counting}
 use Rattle.words.specs.Parts.{lines, part}
 use Rattle.cores.specs.Machines.{Event}
@@ -25,6 +25,10 @@ row-in words = map (place words) (counting 0 (min (getD words 32 0) 16))
 -- the row after a memory of n lines
 unfoldable pub row-of : ℕ → List ℕ → List Waiting
 row-of n words = row-in (part (8 * n) 1024 words)
+
+-- the words after the row, which are no part of the board
+abbrev pub beyond : ℕ → List ℕ → List ℕ
+beyond n words = drop (8 * n + 1024) words
 
 -- the lines that wait, the oldest first
 abbrev pub waiting-of : ℕ → List ℕ → List ℕ

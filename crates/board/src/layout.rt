@@ -6,7 +6,7 @@ ghost use lib.Dec.{ltb};
 ghost use lib.ListN.{getD, length, set};
 ghost use Rattle.cores.specs.Board.{with-lines};
 ghost use Rattle.cores.specs.Ports.{line-of, somes};
-ghost use Rattle.board.specs.Layout.{memory-of, row-in, row-of};
+ghost use Rattle.board.specs.Layout.{beyond, memory-of, row-in, row-of};
 ghost use Rattle.board.specs.Rows.{items-of};
 use crate::row::Row;
 use crate::row::Waiting;
@@ -60,10 +60,10 @@ pub(crate) fn row_at(board: &[u32], lines: usize) -> Row
     read_row(&board[8 * lines..8 * lines + ROW])
 }
 
-// The row becomes the one given; memory stays.
+// The row becomes the one given; all else stays.
 pub(crate) fn put_row(board: &mut [u32], lines: usize, row: Row)
     requires { ⌜ 8 * lines + 1024 ≤ length (now board) ⌝ ∗ ⌜ row .count ≤ 16 ⌝ }
-    ensures { λ _. ⌜ row-of lines (now (board .exit)) ≡ items-of row ⌝ ∗ ⌜ memory-of lines (now (board .exit)) ≡ memory-of lines (now (board .entry)) ⌝ }
+    ensures { λ _. ⌜ row-of lines (now (board .exit)) ≡ items-of row ⌝ ∗ ⌜ memory-of lines (now (board .exit)) ≡ memory-of lines (now (board .entry)) ⌝ ∗ ⌜ beyond lines (now (board .exit)) ≡ beyond lines (now (board .entry)) ⌝ }
 {
     write_row(&mut board[8 * lines..8 * lines + ROW], row);
 }
@@ -79,18 +79,18 @@ pub(crate) fn read_line(board: &[u32], lines: usize, number: u32) -> Line
     }
 }
 
-// Line `number` of memory becomes the words given. The row stays.
+// Line `number` of memory becomes the words given; all else stays.
 fn put_memory(board: &mut [u32], lines: usize, number: usize, words: [u32; 8])
     requires { ⌜ 8 * lines + 1024 ≤ length (now board) ⌝ ∗ ⌜ number < lines ⌝ }
-    ensures { λ _. ⌜ memory-of lines (now (board .exit)) ≡ set (memory-of lines (now (board .entry))) number words ⌝ ∗ ⌜ row-of lines (now (board .exit)) ≡ row-of lines (now (board .entry)) ⌝ }
+    ensures { λ _. ⌜ memory-of lines (now (board .exit)) ≡ set (memory-of lines (now (board .entry))) number words ⌝ ∗ ⌜ row-of lines (now (board .exit)) ≡ row-of lines (now (board .entry)) ⌝ ∗ ⌜ beyond lines (now (board .exit)) ≡ beyond lines (now (board .entry)) ⌝ }
 {
     put_line(&mut board[0..8 * lines], number, words);
 }
 
-// Memory takes a line that is written; one that is not there is not written. The row stays.
+// Memory takes a line that is written; one that is not there is not written. All else stays.
 fn write_line(board: &mut [u32], lines: usize, line: Line)
     requires { ⌜ 8 * lines + 1024 ≤ length (now board) ⌝ }
-    ensures { λ _. ⌜ memory-of lines (now (board .exit)) ≡ set (memory-of lines (now (board .entry))) (line .number) (line .words) ⌝ ∗ ⌜ row-of lines (now (board .exit)) ≡ row-of lines (now (board .entry)) ⌝ }
+    ensures { λ _. ⌜ memory-of lines (now (board .exit)) ≡ set (memory-of lines (now (board .entry))) (line .number) (line .words) ⌝ ∗ ⌜ row-of lines (now (board .exit)) ≡ row-of lines (now (board .entry)) ⌝ ∗ ⌜ beyond lines (now (board .exit)) ≡ beyond lines (now (board .entry)) ⌝ }
 {
     let number = line.number as usize;
     if number < lines {
@@ -98,10 +98,10 @@ fn write_line(board: &mut [u32], lines: usize, line: Line)
     }
 }
 
-// Memory takes the lines that are written, one after another. The row stays.
+// Memory takes the lines that are written, one after another; all else stays.
 pub(crate) fn write_lines(board: &mut [u32], lines: usize, writes: &[Option<Line>])
     requires { ⌜ 8 * lines + 1024 ≤ length (now board) ⌝ }
-    ensures { λ _. ⌜ memory-of lines (now (board .exit)) ≡ with-lines (memory-of lines (now (board .entry))) (somes line-of (now (writes .entry))) ⌝ ∗ ⌜ row-of lines (now (board .exit)) ≡ row-of lines (now (board .entry)) ⌝ }
+    ensures { λ _. ⌜ memory-of lines (now (board .exit)) ≡ with-lines (memory-of lines (now (board .entry))) (somes line-of (now (writes .entry))) ⌝ ∗ ⌜ row-of lines (now (board .exit)) ≡ row-of lines (now (board .entry)) ⌝ ∗ ⌜ beyond lines (now (board .exit)) ≡ beyond lines (now (board .entry)) ⌝ }
 {
     for write in writes {
         let Some(line) = *write else {

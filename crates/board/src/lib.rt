@@ -10,7 +10,7 @@ ghost use Rattle.cores.specs.Board.{asked, due, handed, kept, later, new-board,
 ghost use Rattle.cores.specs.Ports.{line-of, somes};
 ghost use Rattle.board.specs.Cycle.{Follows, Follows-steady, next-waiting};
 ghost use Rattle.board.specs.Faults.{astray, full, or-else, short, unfit, unsound};
-ghost use Rattle.board.specs.Layout.{board-of, memory-of, timed-of, waiting-of};
+ghost use Rattle.board.specs.Layout.{beyond, board-of, memory-of, timed-of, waiting-of};
 ghost use Rattle.board.specs.Rows.{asks-of, items-of, line-in, pair-in, writes-of};
 use crate::check::check_length;
 use crate::check::check_out;
@@ -35,6 +35,7 @@ pub fn start(board: &mut [u32], lines: usize) -> Result<(), Fault>
     ensures fault { λ r. ⌜ errPart r ≡ short lines (now (board .entry)) ⌝ }
     ensures after { λ r. ⌜ made r (λ _. (board-of lines (now (board .exit)) [] [] ≡ new-board (memory-of lines (now (board .entry)))) × (timed-of lines (now (board .exit)) ≡ [])) ⌝ }
     ensures same { λ r. ⌜ refused r (λ _. now (board .exit) ≡ now (board .entry)) ⌝ }
+    ensures rest { λ _. ⌜ beyond lines (now (board .exit)) ≡ beyond lines (now (board .entry)) ⌝ }
 {
     check_length(board, lines)?;
     put_row(board, lines, Row::empty());
@@ -67,6 +68,7 @@ fn finish(board: &mut [u32], lines: usize, row: Row, out: &Out, left: u32) -> Re
     ensures waiting { λ r. ⌜ made r (λ _. waiting-of lines (now (board .exit)) ≡ map line-in (items-of row) ++ asks-of (now (out .entry))) ⌝ }
     ensures timed { λ r. ⌜ made r (λ _. timed-of lines (now (board .exit)) ≡ map pair-in (items-of row) ++ asked (λ _. left) (asks-of (now (out .entry)))) ⌝ }
     ensures same { λ r. ⌜ refused r (λ _. now (board .exit) ≡ now (board .entry)) ⌝ }
+    ensures rest { λ _. ⌜ beyond lines (now (board .exit)) ≡ beyond lines (now (board .entry)) ⌝ }
 {
     check_out(out, lines)?;
     let next = row.with_asked(out.asks, left)?;
@@ -81,6 +83,7 @@ fn finish_given(board: &mut [u32], lines: usize, places: &[u8], out: &Out) -> Re
     ensures memory { λ r. ⌜ made r (λ _. memory-of lines (now (board .exit)) ≡ with-lines (memory-of lines (now (board .entry))) (writes-of (now (out .entry)))) ⌝ }
     ensures waiting { λ r. ⌜ made r (λ _. waiting-of lines (now (board .exit)) ≡ next-waiting lines (now (board .entry)) (now (places .entry)) (now (out .entry))) ⌝ }
     ensures same { λ r. ⌜ refused r (λ _. now (board .exit) ≡ now (board .entry)) ⌝ }
+    ensures rest { λ _. ⌜ beyond lines (now (board .exit)) ≡ beyond lines (now (board .entry)) ⌝ }
 {
     let row = sound_row(board, lines)?;
     finish(board, lines, row.without(places), out, 0)?;
@@ -92,6 +95,7 @@ pub fn after(board: &mut [u32], lines: usize, places: &[u8], out: &Out) -> Resul
     ensures fault { λ r. ⌜ errPart r ≡ unfit lines (now (board .entry)) (now (out .entry)) (length (kept (now (places .entry)) 0 (waiting-of lines (now (board .entry))))) ⌝ }
     ensures after { λ r. ⌜ made r (λ _. Follows lines (now (board .entry)) (now (places .entry)) (now (out .entry)) (now (board .exit))) ⌝ }
     ensures same { λ r. ⌜ refused r (λ _. now (board .exit) ≡ now (board .entry)) ⌝ }
+    ensures rest { λ _. ⌜ beyond lines (now (board .exit)) ≡ beyond lines (now (board .entry)) ⌝ }
 {
     finish_given(board, lines, places, out)
 }
@@ -101,6 +105,7 @@ pub fn after_steady(board: &mut [u32], lines: usize, late: u32, out: &Out) -> Re
     ensures fault { λ r. ⌜ errPart r ≡ unfit lines (now (board .entry)) (now (out .entry)) (length (later (timed-of lines (now (board .entry))))) ⌝ }
     ensures after { λ r. ⌜ made r (λ _. Follows-steady lines (now (board .entry)) late (now (out .entry)) (now (board .exit))) ⌝ }
     ensures same { λ r. ⌜ refused r (λ _. now (board .exit) ≡ now (board .entry)) ⌝ }
+    ensures rest { λ _. ⌜ beyond lines (now (board .exit)) ≡ beyond lines (now (board .entry)) ⌝ }
 {
     let row = sound_row(board, lines)?;
     finish(board, lines, row.later(), out, late)?;

@@ -9,4 +9,5 @@ returns c =
       fault = done .fault;
       after = followed (c .finish-given .result) (c .args .lines) (c .args .board .now) (c .args .places .now) (c .args .out .now) (c .finish-given .last .board) (done .memory) (done .waiting);
       same = done .same;
+      rest = done .rest;
     }

@@ -9,4 +9,5 @@ pub returns : need.returns
 returns c =
     let n = c .args .lines in
     let k : 8 * n - 0 ≡ 8 * n = omega arith in
-    memory-written n (c .args .number) (8 * n - 0) (c .args .board .now) (c .put-line .last .words) (c .args .words) (omega arith) k (omega arith) (omega arith) (c .put-line .ensures)
+    let w = memory-written n (c .args .number) (8 * n - 0) (c .args .board .now) (c .put-line .last .words) (c .args .words) (omega arith) k (omega arith) (omega arith) (c .put-line .ensures) in
+    (w .0, (w .1, w .2))

@@ -10,4 +10,4 @@ use Rattle.board.proofs.layout.write_line.Needs as need
 pub returns-else-number-lines : need.returns-else-number-lines
 returns-else-number-lines c =
     let long : length (lines (c .args .lines) (c .args .board .now)) ≡ c .args .lines = line-count (c .args .lines) (c .args .board .now) in
-    (sym (set-past (lines (c .args .lines) (c .args .board .now)) (c .args .line .number) (c .args .line .words) (omega arith)), refl)
+    (sym (set-past (lines (c .args .lines) (c .args .board .now)) (c .args .line .number) (c .args .line .words) (omega arith)), (refl, refl))

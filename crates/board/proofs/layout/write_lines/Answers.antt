@@ -14,6 +14,7 @@ pub loop-write-again-in-rest : need.loop-write-again-in-rest
 loop-write-again-in-rest c = (
   writes-skip (memory-of (c .args .lines) (c .loop-write .board)) (c .args .writes .now) (c .loop-write .write-index) (omega arith) (c .in-rest .is) ∙ c .loop-write .inv .0,
   c .loop-write .inv .1,
+  c .loop-write .inv .2,
 )
 
 pub loop-write-again : need.loop-write-again
@@ -23,8 +24,12 @@ loop-write-again c =
       ap (λ (m : List (List ℕ)). with-lines m (somes line-of (drop (k + 1) xs))) (c .write-line .ensures .0)
           ∙ writes-more (memory-of (c .args .lines) (c .loop-write .board)) xs k (c .in-Some .line) (omega arith) (c .in-Some .is)
           ∙ c .loop-write .inv .0,
-      c .write-line .ensures .1 ∙ c .loop-write .inv .1,
+      c .write-line .ensures .1 .0 ∙ c .loop-write .inv .1,
+      c .write-line .ensures .1 .1 ∙ c .loop-write .inv .2,
     )
 
 pub returns : need.returns
-returns c = (writes-all (memory-of (c .args .lines) (c .loop-write .board)) (c .args .writes .now) (c .loop-write .write-index) (omega arith) ∙ c .loop-write .inv .0, c .loop-write .inv .1)
+returns c = (
+  writes-all (memory-of (c .args .lines) (c .loop-write .board)) (c .args .writes .now) (c .loop-write .write-index) (omega arith) ∙ c .loop-write .inv .0,
+  (c .loop-write .inv .1, c .loop-write .inv .2),
+)
