@@ -30,7 +30,7 @@ words-in s = word-in (s .fetched) (s .loaded)
 abbrev pub lacked : Control → Core → Option ℕ
 lacked s c = first (lacks-code (fetch (s .size) c) (s .fetched)) (lacks-data (needs rv (s .size) c (words-in s)) (s .fetched) (s .loaded))
 
--- what is shared once the turn has passed, once a line has come for a core that fetches this word, and once line a is asked for
+-- what is shared once the turn has passed, and once a line has come for a core that fetches this word
 abbrev pub turned : Control → Control
 turned s = record { count = s .count; size = s .size; turn = following (s .count) (s .turn); asked = None; fetched = None; loaded = None }
 
@@ -43,9 +43,6 @@ filled s code l = record {
   fetched = pick (lies-in code (l .number)) (Some l) (s .fetched);
   loaded = pick (lies-in code (l .number)) (s .loaded) (Some l);
 }
-
-abbrev pub asking : Control → ℕ → Control
-asking s a = record { count = s .count; size = s .size; turn = s .turn; asked = Some a; fetched = s .fetched; loaded = s .loaded }
 
 -- the places of a row of events are empty from place n on
 abbrev pub Empty-from : ℕ → List (Option port.Event) → Type 0

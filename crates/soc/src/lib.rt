@@ -2,5 +2,5 @@
 pub mod control;
 pub mod cycle;
 pub mod promises;
-pub mod state;
-pub mod turn;
+mod state;
+mod turn;
