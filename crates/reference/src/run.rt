@@ -3,11 +3,12 @@ ghost use mathlib.Core.Bool.{false};
 ghost use mathlib.Core.List.{List, [], map};
 ghost use mathlib.Core.Path.{_≡_};
 ghost use Prim.Native.Nat.{ℕ, _*_, _/_, _<_, _≤_};
-ghost use lib.Dec.{ltb};
+ghost use lib.Dec.{leb, ltb};
 ghost use lib.ListN.{getD, length};
 ghost use Rattle.std.specs.Of.Vec.{vec-items};
 ghost use Rattle.std.specs.Options.{Cases as BySome};
-ghost use Rattle.std.specs.Results.{Cases as ByOk};
+ghost use Rattle.std.specs.Results.{isOk};
+ghost use Rattle.std.specs.Vec.{made, refused};
 ghost use Rattle.words.specs.Parts.{lines as lines-of};
 ghost use Rattle.rv32.specs.Execute.{did, one};
 ghost use Rattle.rv32.specs.Laws.{Stores-within, Supplied, Within};
@@ -175,7 +176,9 @@ impl Machines {
 
     // One event. A memory that is too large is refused, and nothing is changed.
     pub fn perform(&mut self, memory: &mut [u32], event: Event) -> Result<Outcome, Fault>
-        ensures { λ r. ⌜ ByOk r (λ o. (length (now (memory .entry)) ≤ 524288) × Performed (event-of event) (now (self .entry)) (now (memory .entry)) (now (self .exit)) (now (memory .exit)) o) (λ f. (f ≡ TooLarge) × (524288 < length (now (memory .entry))) × (now (self .exit) ≡ now (self .entry)) × (now (memory .exit) ≡ now (memory .entry))) ⌝ }
+        ensures when { λ r. ⌜ isOk r ≡ leb (length (now (memory .entry))) 524288 ⌝ }
+        ensures done { λ r. ⌜ made r (λ o. Performed (event-of event) (now (self .entry)) (now (memory .entry)) (now (self .exit)) (now (memory .exit)) o) ⌝ }
+        ensures same { λ r. ⌜ refused r (λ f. (f ≡ TooLarge) × (now (self .exit) ≡ now (self .entry)) × (now (memory .exit) ≡ now (memory .entry))) ⌝ }
     {
         if is_too_large(memory) {
             return Err(Fault::TooLarge);
@@ -191,7 +194,9 @@ impl Machines {
         events: &[Event],
         outcomes: &mut Vec<Outcome>,
     ) -> Result<(), Fault>
-        ensures { λ r. ⌜ ByOk r (λ _. (length (now (memory .entry)) ≤ 524288) × All-performed (map event-of (now (events .entry))) (now (self .entry)) (now (memory .entry)) (vec-items (now (outcomes .entry))) (now (self .exit)) (now (memory .exit)) (vec-items (now (outcomes .exit)))) (λ _. (now (self .exit) ≡ now (self .entry)) × (now (memory .exit) ≡ now (memory .entry)) × (vec-items (now (outcomes .exit)) ≡ vec-items (now (outcomes .entry)))) ⌝ }
+        ensures fits { λ r. ⌜ made r (λ _. length (now (memory .entry)) ≤ 524288) ⌝ }
+        ensures done { λ r. ⌜ made r (λ _. All-performed (map event-of (now (events .entry))) (now (self .entry)) (now (memory .entry)) (vec-items (now (outcomes .entry))) (now (self .exit)) (now (memory .exit)) (vec-items (now (outcomes .exit)))) ⌝ }
+        ensures same { λ r. ⌜ refused r (λ f. (f ≡ TooLarge → 524288 < length (now (memory .entry))) × (now (self .exit) ≡ now (self .entry)) × (now (memory .exit) ≡ now (memory .entry)) × (vec-items (now (outcomes .exit)) ≡ vec-items (now (outcomes .entry)))) ⌝ }
     {
         if is_too_large(memory) {
             return Err(Fault::TooLarge);

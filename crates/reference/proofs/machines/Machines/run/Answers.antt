@@ -20,4 +20,8 @@ loop-event-again c = (
 )
 
 pub returns : need.returns
-returns c = (ltb-false _ _ (sym (c .is-too-large .ensures) ∙ c .if-is-too-large .left), performed-all event-of (c .args .events .now) (c .loop-event .event-index) _ _ _ _ _ _ _ (c .loop-event-test .left) (c .reserve .ensures .items) (c .loop-event .inv .0))
+returns c = record {
+  fits = ltb-false _ _ (sym (c .is-too-large .ensures) ∙ c .if-is-too-large .left);
+  done = performed-all event-of (c .args .events .now) (c .loop-event .event-index) _ _ _ _ _ _ _ (c .loop-event-test .left) (c .reserve .ensures .items) (c .loop-event .inv .0);
+  same = tt;
+}
