@@ -1,0 +1,4 @@
+// The chip on the board, run by choices.
+mod cycles;
+pub mod listener;
+mod step;
