@@ -3,3 +3,4 @@ pub mod Within
 pub mod Fits
 pub mod Steps
 pub mod Runs
+pub mod Power
