@@ -6,3 +6,4 @@ pub mod Soc
 pub mod Runs
 pub mod Layout
 pub mod Turn
+pub mod Stopped

@@ -12,6 +12,7 @@ ghost use Rattle.cores.specs.Machines.{step};
 ghost use Rattle.cores.specs.Ports.{event-of, line-of, out-of, said-of, somes};
 ghost use Rattle.soc.specs.Layout.{cycle-fault, fresh-fault, state-of};
 ghost use Rattle.soc.specs.Rv.{rv};
+ghost use Rattle.soc.specs.Stopped.{all-off, stopped-fault};
 ghost use Rattle.soc.specs.Soc.{act, cycle, finish, fresh, received, take-interrupt};
 ghost use Rattle.soc.specs.Turn.{Empty-from, only-did, put-out};
 use crate::control::Act;
@@ -266,4 +267,15 @@ pub fn fresh(chip: &mut [u32], cores: usize, lines: u32) -> Result<(), Fault>
     }
     fresh_in(chip, cores, lines);
     Ok(())
+}
+
+// Whether every core has stopped. Fewer than 16,384 words are refused.
+pub fn all_stopped(chip: &[u32]) -> Result<bool, Fault>
+    ensures { λ r. ⌜ ByOk r (λ b. (stopped-fault (length (now (chip .entry))) ≡ None) × (b ≡ all-off (state-of (now (chip .entry))))) (λ f. stopped-fault (length (now (chip .entry))) ≡ Some f) ⌝ }
+{
+    if chip.len() < 16384 {
+        return Err(Fault::ChipShort);
+    }
+    let some = is_on(chip, 0) || is_on(chip, 1) || is_on(chip, 2) || is_on(chip, 3);
+    Ok(!some)
 }

@@ -1,0 +1,5 @@
+// The chip on the board, run by choices.
+mod cycles;
+pub mod listener;
+pub mod run;
+mod step;

@@ -1,0 +1,97 @@
+// One cycle of the chip on the board, both in lent words.
+ghost use mathlib.Core.Bool.{false};
+ghost use mathlib.Core.List.{map};
+ghost use mathlib.Core.Path.{_≡_};
+ghost use Prim.Native.Nat.{_≤_};
+ghost use lib.ListN.{getD, length, take};
+ghost use Rattle.std.specs.declared.option.Option.the-variants.{None};
+ghost use Rattle.cores.specs.Board.{handed, kept};
+ghost use Rattle.cores.specs.Ports.{line-of, out-of, somes};
+ghost use Rattle.board.specs.Cycle.{Follows};
+ghost use Rattle.board.specs.Faults.{unfit, unsound};
+ghost use Rattle.board.specs.Layout.{memory-of, waiting-of};
+ghost use Rattle.soc.specs.Layout.{state-of};
+ghost use Rattle.soc.specs.Rv.{rv};
+ghost use Rattle.soc.specs.Soc.{cycle};
+ghost use Rattle.system.specs.Cycle.{Fitting, Next, choice, raised-of};
+use cores::port::Line;
+use cores::port::Out;
+
+// The lines that come: the first `count` of sixteen places.
+#[derive(Clone, Copy)]
+struct Coming {
+    lines: [Line; 16],
+    count: usize,
+}
+
+// The lines of a row, without the places that are empty.
+fn present(come: [Option<Line>; 16]) -> Coming
+    ensures { λ r. ⌜ map line-of (take (r .count) (r .lines)) ≡ somes line-of come ⌝ ∗ ⌜ r .count ≤ 16 ⌝ }
+{
+    let mut lines = [Line {
+        number: 0,
+        words: [0; 8],
+    }; 16];
+    let mut count = 0;
+    for i in 0..16 {
+        match come[i] {
+            Some(line) => {
+                lines[count] = line;
+                count += 1;
+            }
+            None => {}
+        }
+    }
+    Coming { lines, count }
+}
+
+// The lines that the board gives now.
+fn given(board: &[u32], lines: usize, places: &[u8]) -> Coming
+    requires { ⌜ unsound lines (now board) ≡ None ⌝ }
+    ensures { λ r. ⌜ map line-of (take (r .count) (r .lines)) ≡ handed (memory-of lines (now (board .entry))) (now (places .entry)) 0 (waiting-of lines (now (board .entry))) ⌝ ∗ ⌜ r .count ≤ 16 ⌝ }
+{
+    match board::given(board, lines, places) {
+        Ok(come) => present(come),
+        Err(_) => unreachable(),
+    }
+}
+
+// The chip's cycle.
+fn cycle_with(chip: &mut [u32], coming: Coming, up: [bool; 4], said: &mut [u32]) -> Out
+    requires { ⌜ 16384 ≤ length (now chip) ⌝ ∗ ⌜ 16 ≤ length (now said) ⌝ ∗ ⌜ coming .count ≤ 16 ⌝ }
+    ensures { λ r. ⌜ (state-of (now (chip .exit)), out-of r (now (said .exit))) ≡ cycle rv (state-of (now (chip .entry))) (map line-of (take (coming .count) (coming .lines))) (raised-of up) ⌝ }
+{
+    match soc::cycle::cycle(chip, &coming.lines[0..coming.count], up, said) {
+        Ok(out) => out,
+        Err(_) => unreachable(),
+    }
+}
+
+// The board takes what the chip puts out.
+fn follow(board: &mut [u32], lines: usize, places: &[u8], out: &Out)
+    requires { ⌜ unfit lines (now board) (now out) (length (kept (now places) 0 (waiting-of lines (now board)))) ≡ None ⌝ }
+    ensures { λ _. ⌜ Follows lines (now (board .entry)) (now (places .entry)) (now (out .entry)) (now (board .exit)) ⌝ }
+{
+    match board::after(board, lines, places, out) {
+        Ok(()) => {}
+        Err(_) => unreachable(),
+    }
+}
+
+// One cycle, in which these places are given and these interrupt lines are up.
+pub(crate) fn cycle(
+    board: &mut [u32],
+    lines: usize,
+    chip: &mut [u32],
+    places: &[u8],
+    up: [bool; 4],
+    said: &mut [u32],
+) -> Out
+    requires { ⌜ 16384 ≤ length (now chip) ⌝ ∗ ⌜ 16 ≤ length (now said) ⌝ ∗ ⌜ Fitting lines (now chip) (now board) (choice (now places) up) ⌝ }
+    ensures { λ r. ⌜ Next lines (now (chip .entry)) (now (board .entry)) (choice (now (places .entry)) up) r (now (said .exit)) (now (chip .exit)) (now (board .exit)) ⌝ }
+{
+    let coming = given(board, lines, places);
+    let out = cycle_with(chip, coming, up, said);
+    follow(board, lines, places, &out);
+    out
+}
