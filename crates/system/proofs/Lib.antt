@@ -4,3 +4,4 @@ pub mod Fits
 pub mod Steps
 pub mod Runs
 pub mod Power
+pub mod Timed
