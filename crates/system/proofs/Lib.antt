@@ -5,3 +5,4 @@ pub mod Steps
 pub mod Runs
 pub mod Power
 pub mod Recorded
+pub mod Timed

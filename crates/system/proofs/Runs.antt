@@ -38,7 +38,7 @@ kept = record {
 }
 
 -- what agrees with parts agrees with parts that are the same
-moved : (h i : State rv) (m k : List (List ℕ)) (w x : List ℕ) (s : List (ℕ × ℕ)) (μ : Man rv) → h ≡ i → m ≡ k → w ≡ x → Agrees rv rv-laws i k x s μ → Agrees rv rv-laws h m w s μ
+pub moved : (h i : State rv) (m k : List (List ℕ)) (w x : List ℕ) (s : List (ℕ × ℕ)) (μ : Man rv) → h ≡ i → m ≡ k → w ≡ x → Agrees rv rv-laws i k x s μ → Agrees rv rv-laws h m w s μ
 moved h i m k w x s μ e f g a =
     subst (λ (j : State rv). Agrees rv rv-laws j m w s μ) (sym e) (subst (λ (j : List (List ℕ)). Agrees rv rv-laws i j w s μ) (sym f) (subst (λ (j : List ℕ). Agrees rv rv-laws i k j s μ) (sym g) a))
 

@@ -2,3 +2,4 @@
 pub mod Cycle
 pub mod Run
 pub mod Record
+pub mod Steady

@@ -67,7 +67,7 @@ fn begin_chip(chip: &mut [u32], header: Header)
 }
 
 // Power-on with a memory.
-fn power_on(memory: &[u8], header: Header, board: &mut [u32], chip: &mut [u32])
+pub(crate) fn power_on(memory: &[u8], header: Header, board: &mut [u32], chip: &mut [u32])
     requires { ⌜ header-of (now memory) ≡ Ok header ⌝ ∗ ⌜ Fits (now memory) header ⌝ ∗ ⌜ 8 * header .lines + 1024 ≤ length (now board) ⌝ ∗ ⌜ 16384 ≤ length (now chip) ⌝ }
     ensures { λ _. ⌜ Powered-on header (now (chip .exit)) (now (board .exit)) ⌝ ∗ ⌜ memory-of (header .lines) (now (board .exit)) ≡ memory-in header (now (memory .entry)) ⌝ }
 {
@@ -77,7 +77,7 @@ fn power_on(memory: &[u8], header: Header, board: &mut [u32], chip: &mut [u32])
 }
 
 // Whether every core has stopped.
-fn all_stopped(chip: &[u32]) -> bool
+pub(crate) fn all_stopped(chip: &[u32]) -> bool
     requires { ⌜ 16384 ≤ length (now chip) ⌝ }
     ensures { λ r. ⌜ r ≡ all-off (state-of (now (chip .entry))) ⌝ }
 {

@@ -5,15 +5,16 @@ ghost use mathlib.Core.Path.{_≡_};
 ghost use Prim.Native.Nat.{_≤_};
 ghost use lib.ListN.{getD, length, take};
 ghost use Rattle.std.specs.declared.option.Option.the-variants.{None};
-ghost use Rattle.cores.specs.Board.{handed, kept};
+ghost use Rattle.cores.specs.Board.{due, handed, kept, later};
 ghost use Rattle.cores.specs.Ports.{line-of, out-of, somes};
-ghost use Rattle.board.specs.Cycle.{Follows};
+ghost use Rattle.board.specs.Cycle.{Follows, Follows-steady};
 ghost use Rattle.board.specs.Faults.{unfit, unsound};
-ghost use Rattle.board.specs.Layout.{memory-of, waiting-of};
+ghost use Rattle.board.specs.Layout.{memory-of, timed-of, waiting-of};
 ghost use Rattle.soc.specs.Layout.{state-of};
 ghost use Rattle.soc.specs.Rv.{rv};
 ghost use Rattle.soc.specs.Soc.{cycle};
 ghost use Rattle.system.specs.Cycle.{Fitting, Next, choice, raised-of};
+ghost use Rattle.system.specs.Steady.{Fitting-steady, Next-steady};
 use cores::port::Line;
 use cores::port::Out;
 
@@ -93,5 +94,44 @@ pub(crate) fn cycle(
     let coming = given(board, lines, places);
     let out = cycle_with(chip, coming, up, said);
     follow(board, lines, places, &out);
+    out
+}
+
+// The lines whose time has come on the steady board.
+fn due(board: &[u32], lines: usize) -> Coming
+    requires { ⌜ unsound lines (now board) ≡ None ⌝ }
+    ensures { λ r. ⌜ map line-of (take (r .count) (r .lines)) ≡ due (memory-of lines (now (board .entry))) (timed-of lines (now (board .entry))) ⌝ ∗ ⌜ r .count ≤ 16 ⌝ }
+{
+    match board::due(board, lines) {
+        Ok(come) => present(come),
+        Err(_) => unreachable(),
+    }
+}
+
+// The steady board takes what the chip puts out.
+fn follow_steady(board: &mut [u32], lines: usize, late: u32, out: &Out)
+    requires { ⌜ unfit lines (now board) (now out) (length (later (timed-of lines (now board)))) ≡ None ⌝ }
+    ensures { λ _. ⌜ Follows-steady lines (now (board .entry)) late (now (out .entry)) (now (board .exit)) ⌝ }
+{
+    match board::after_steady(board, lines, late, out) {
+        Ok(()) => {}
+        Err(_) => unreachable(),
+    }
+}
+
+// One cycle on the steady board.
+pub(crate) fn cycle_steady(
+    board: &mut [u32],
+    lines: usize,
+    late: u32,
+    chip: &mut [u32],
+    said: &mut [u32],
+) -> Out
+    requires { ⌜ 16384 ≤ length (now chip) ⌝ ∗ ⌜ 16 ≤ length (now said) ⌝ ∗ ⌜ Fitting-steady lines (now chip) (now board) ⌝ }
+    ensures { λ r. ⌜ Next-steady lines late (now (chip .entry)) (now (board .entry)) r (now (said .exit)) (now (chip .exit)) (now (board .exit)) ⌝ }
+{
+    let coming = due(board, lines);
+    let out = cycle_with(chip, coming, [false; 4], said);
+    follow_steady(board, lines, late, &out);
     out
 }
