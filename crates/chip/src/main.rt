@@ -3,6 +3,8 @@ mod options;
 
 use cores::port::Event;
 use image::Refusal;
+use image::count_cycles;
+use image::cycle_at;
 use image::read_header;
 use image::store;
 use options::Options;
@@ -17,7 +19,7 @@ use system::run::Stopped;
 use system::run::run as run_choices;
 use system::steady::run_steady;
 
-const HELP: &str = "chip MEMORY CHOICES [--events FILE] [--memory FILE]
+const HELP: &str = "chip MEMORY CHOICES [--cycles N] [--events FILE] [--memory FILE]
 chip MEMORY --steady L [--cycles N] [--events FILE] [--memory FILE]
 
 Runs a memory on the chip.
@@ -27,7 +29,7 @@ CHOICES   bytes, for each cycle: whose interrupt lines are up (one byte, a bit f
           and their places in the row of waiting lines (one byte each, rising)
 --steady L  in the place of choices: each line is given in the L-th cycle after the next, and no interrupt line is up; it ends when
           every core has stopped
---cycles N  at most so many cycles (2^32 if not said); for the steady board
+--cycles N  at most so many cycles (2^32 if not said)
 --events FILE  writes what was done, a line for each cycle, in the form that manual reads
 --memory FILE  writes memory at the end, in the format that is read
 
@@ -112,6 +114,28 @@ fn save_memory(rt: &LibcRuntime, cores: usize, memory: &[u32], path: &str) -> Re
     Ok(())
 }
 
+// The choices of the first so many cycles. Choices that do not have the format stay whole, to be refused.
+fn first_cycles(choices: &[u8], cores: usize, most: u64) -> &[u8] {
+    let Ok(cycles) = count_cycles(choices, cores) else {
+        return choices;
+    };
+    if cycles <= most {
+        return choices;
+    }
+    let mut end = 0;
+    for _ in 0..most {
+        let Some(record) = cycle_at(choices, end) else {
+            break;
+        };
+        end = record.end;
+    }
+    if end <= choices.len() {
+        &choices[0..end]
+    } else {
+        choices
+    }
+}
+
 fn refused(rt: &LibcRuntime, refusal: Refusal) -> Result<bool, AnyError> {
     println!(rt, "refused {} at {}", refusal.number(), refusal.place())?;
     Ok(false)
@@ -133,7 +157,7 @@ fn run(rt: &LibcRuntime, options: &Options) -> Result<bool, AnyError> {
             let choices = bytes_of(rt, path.as_str())?;
             run_choices(
                 memory.as_slice(),
-                choices.as_slice(),
+                first_cycles(choices.as_slice(), cores, options.cycles),
                 board.as_mut_slice(),
                 chip.as_mut_slice(),
                 &mut said,
