@@ -1,0 +1,2 @@
+-- One cycle more in a log.
+pub mod Logs

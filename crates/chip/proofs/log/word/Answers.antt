@@ -1,0 +1,8 @@
+-- Past the end a list reads as 0.
+use native.Mathlib.Omega.{arith}
+use mathlib.Core.Path.{sym}
+use Rattle.std.proofs.shelf.Lists.{getD-past}
+use Rattle.chip.proofs.log.word.Needs as need
+
+pub returns-else-i-words : need.returns-else-i-words
+returns-else-i-words c = sym (getD-past (c .args .words .now) (c .args .i) 0 (omega arith))

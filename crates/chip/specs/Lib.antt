@@ -1,0 +1,2 @@
+-- What the program's listener has heard.
+pub mod Heard
