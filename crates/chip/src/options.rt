@@ -45,7 +45,7 @@ pub fn read(rt: &LibcRuntime) -> Result<Option<Options>, AnyError> {
     let heap = rt.alloc();
     let mut memory: Option<String> = None;
     let mut outside: Option<Outside> = None;
-    let mut cycles: u64 = u64::MAX;
+    let mut cycles: Option<u64> = None;
     let mut events: Option<String> = None;
     let mut save: Option<String> = None;
     let mut words = env::args(rt)?;
@@ -69,7 +69,7 @@ pub fn read(rt: &LibcRuntime) -> Result<Option<Options>, AnyError> {
                 let Some(n) = words.next() else {
                     return Err(wrong(heap, "a number is missing after", "--cycles"));
                 };
-                cycles = number(heap, n.as_str())?;
+                cycles = Some(number(heap, n.as_str())?);
             }
             "--events" => {
                 let Some(file) = words.next() else {
@@ -103,10 +103,15 @@ pub fn read(rt: &LibcRuntime) -> Result<Option<Options>, AnyError> {
     let Some(outside) = outside else {
         return Err("choices, or --steady L, are missing (see chip --help)".into());
     };
+    if let Outside::Choices(_) = &outside {
+        if cycles.is_some() {
+            return Err(wrong(heap, "choices say how many cycles there are", "--cycles"));
+        }
+    }
     Ok(Some(Options {
         memory,
         outside,
-        cycles,
+        cycles: cycles.unwrap_or(u64::MAX),
         events,
         save,
     }))
