@@ -24,7 +24,7 @@ use Rattle.soc.specs.Soc.{State, chip, fresh}
 use Rattle.soc.proofs.Keeps.{Man, Agrees, starts, cycle-keeps}
 use Rattle.soc.proofs.Rv.{rv-laws}
 use Rattle.system.specs.Cycle.{Fitting, Next, choice, next}
-use Rattle.system.specs.Run.{lines-up, choice-of, choices-in, Powered-on, Heard, Ran, Cut-short}
+use Rattle.system.specs.Run.{lines-up, choice-of, choices-in, Powered-on, Ran}
 use Rattle.system.proofs.Fits.{fitting}
 
 abbrev Inv : State rv → Board → Man rv → Type 0
@@ -115,16 +115,6 @@ module _ (h : Header) (m : List (List ℕ)) (bytes : List ℕ) (said0 : List (�
   far-all at done chips board said did s e =
       let z : s .before ≡ choices-in bytes = sym (append-nil (s .before)) ∙ ap (λ (l : List Cycle). s .before ++ map choice-of l) (sym e) ∙ s .joined in
       (sym (s .count) ∙ ap length z, subst (λ (cs : List Choice). Ran (h .cores) (h .lines) m cs chips board said0 did0 said did) z (s .ran))
-
-  -- where the listener refuses, it has heard of the cycles before
-  pub far-cut : (at done : ℕ) (chips board : List ℕ) (said said-then : List (ℕ × ℕ)) (did did-then : List Event) → So-far h m bytes at done chips board said0 did0 said did → said-then ≡ said → did-then ≡ did →
-      Cut-short (h .cores) m (choices-in bytes) said0 did0 said-then did-then
-  far-cut at done chips board said said-then did did-then s e f = record {
-    before = s .before;
-    rest = choices-in (drop at bytes);
-    all = s .joined;
-    heard = record { words = e ∙ s .ran .heard .words; events = f ∙ s .ran .heard .events };
-  }
 
 -- before the first cycle
 pub far-start : (h : Header) (bytes chips board : List ℕ) (said : List (ℕ × ℕ)) (did : List Event) → Powered-on h chips board →

@@ -11,7 +11,7 @@ use Rattle.std.proofs.shelf.Lists.{length-map}
 use Rattle.std.specs.declared.option.Option.{Option}
 use Rattle.std.specs.declared.option.Option.the-variants.{Some, None}
 use Rattle.words.proofs.Lines.{line-count}
-use Rattle.cores.specs.Machines.{Event, pick, begins, events, manual-after, said-by}
+use Rattle.cores.specs.Machines.{Event, pick, begins, events, manual-after}
 use Rattle.cores.specs.Board.{Choice, Out, Steady, among, asked, due, handed, kept, later, steady, steady-cycle, steady-start, with-lines}
 use Rattle.cores.specs.Ports.{event-of, out-of, said-of, somes}
 use Rattle.cores.specs.declared.port.Out as port
@@ -29,10 +29,8 @@ use Rattle.soc.specs.Soc.{State, chip, cycle, fresh}
 use Rattle.soc.proofs.Lines.{row}
 use Rattle.soc.proofs.Keeps.{Man, Agrees, After, starts, cycle-keeps}
 use Rattle.soc.proofs.Rv.{rv-laws}
-use Rattle.soc.specs.Stopped.{all-off}
-use Rattle.system.specs.Run.{Powered-on, memory-in}
-use Rattle.system.specs.Steady.{after-steady, none-up, Next-steady, Fitting-steady, Heard-steady, Ran-steady, Cut-steady, Enough, Done-steady, Finished-steady}
-use Rattle.system.specs.declared.run.Ended.{Ended}
+use Rattle.system.specs.Run.{Powered-on}
+use Rattle.system.specs.Steady.{after-steady, none-up, Next-steady, Fitting-steady, Heard-steady, Ran-steady}
 use Rattle.system.proofs.Fits.{fitting}
 use Rattle.system.proofs.Runs.{moved}
 
@@ -221,24 +219,6 @@ steady-begin h late chips board said did p =
     }
 
 module _ (n lines late : ℕ) (m : List (List ℕ)) (said0 : List (ℕ × ℕ)) (did0 : List Event) where
-  -- what is known at the end
-  pub steady-done : (cycles k : ℕ) (chips board : List ℕ) (said : List (ℕ × ℕ)) (did : List Event) → Far n lines late m said0 did0 k chips board said did → Enough k cycles chips →
-      Done-steady n lines m late cycles k chips board said0 did0 said did
-  steady-done cycles k chips board said did f e = record { enough = e; ran = f .ran; same = λ j. ap (said-by j) (f .agrees .said) }
-
-  -- and where the listener refuses
-  pub steady-cut : (k : ℕ) (chips board : List ℕ) (said said-then : List (ℕ × ℕ)) (did did-then : List Event) → Far n lines late m said0 did0 k chips board said did → said-then ≡ said → did-then ≡ did →
-      Cut-steady n m late said0 did0 said-then did-then
-  steady-cut k chips board said said-then did did-then f e d = (k, record { words = e ∙ f .ran .heard .words; events = d ∙ f .ran .heard .events })
-
+  -- after a run nothing is refused in the next cycle
   pub far-fits : (k : ℕ) (chips board : List ℕ) (said : List (ℕ × ℕ)) (did : List Event) → Far n lines late m said0 did0 k chips board said did → 8 * lines + 1024 ≤ length board → Fitting-steady lines chips board
   far-fits k chips board said did f l = fitting-steady lines chips board _ _ (f .agrees) l
-
--- the same of the memory that was brought
-pub finished-steady : (h : Header) (memory board-on : List ℕ) (late cycles : ℕ) (e : Ended) (chips board : List ℕ) (said0 : List (ℕ × ℕ)) (did0 : List Event) (said : List (ℕ × ℕ)) (did : List Event) →
-    memory-of (h .lines) board-on ≡ memory-in h memory → Done-steady (h .cores) (h .lines) (memory-of (h .lines) board-on) late cycles (e .cycles) chips board said0 did0 said did →
-    e .stopped ≡ all-off (state-of chips) → Finished-steady h memory late cycles e chips board said0 did0 said did
-finished-steady h memory board-on late cycles e chips board said0 did0 said did q d o = record {
-  done = subst (λ (m : List (List ℕ)). Done-steady (h .cores) (h .lines) m late cycles (e .cycles) chips board said0 did0 said did) q d;
-  stopped = o;
-}

@@ -1,9 +1,8 @@
 -- Each turn of the loop is one cycle more; at the end all are done.
 use native.Mathlib.Omega.{arith}
-use borrow.Author.Needs.{needs}
 use Rattle.board.specs.Layout.{memory-of}
 use Rattle.system.specs.Cycle.{choice}
-use Rattle.system.proofs.Runs.{far-start, far-next, far-all, far-cut, ran-fits}
+use Rattle.system.proofs.Runs.{far-start, far-next, far-all, ran-fits}
 use Rattle.system.proofs.cycles.run_cycles.Needs as need
 
 pub loop-record-holds : need.loop-record-holds

@@ -1,5 +1,5 @@
 -- All cycles were done from power-on, so the main promise holds.
-use mathlib.Core.Path.{sym, _∙_}
+use mathlib.Core.Path.{sym}
 use Rattle.system.proofs.Power.{finished}
 use Rattle.system.proofs.run.run.Needs as need
 

@@ -1,9 +1,7 @@
 -- Each turn of the loop is one cycle more.
 use native.Mathlib.Omega.{arith}
-use mathlib.Core.Logic.{inl, inr}
-use mathlib.Core.Path.{sym, _∙_}
 use Rattle.board.specs.Layout.{memory-of}
-use Rattle.system.proofs.Timed.{steady-begin, steady-next, steady-done, steady-cut, far-fits}
+use Rattle.system.proofs.Timed.{steady-begin, steady-next, far-fits}
 use Rattle.system.proofs.steady.run_cycles_steady.Needs as need
 
 pub loop-done-holds : need.loop-done-holds
