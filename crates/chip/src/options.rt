@@ -51,7 +51,7 @@ fn file(heap: Global, word: Option<String>, option: &str) -> Result<Option<Strin
 }
 
 // What the words ask for; none where they ask for help.
-pub fn read(rt: &LibcRuntime) -> Result<Option<Options>, AnyError> {
+pub(crate) fn read(rt: &LibcRuntime) -> Result<Option<Options>, AnyError> {
     let heap = rt.alloc();
     let mut memory: Option<String> = None;
     let mut outside: Option<Outside> = None;

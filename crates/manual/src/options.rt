@@ -32,7 +32,7 @@ fn turns(heap: Global, word: &str) -> Result<u64, AnyError> {
 }
 
 // What the words ask for; none where they ask for help.
-pub fn read(rt: &LibcRuntime) -> Result<Option<Options>, AnyError> {
+pub(crate) fn read(rt: &LibcRuntime) -> Result<Option<Options>, AnyError> {
     let heap = rt.alloc();
     let mut memory: Option<String> = None;
     let mut source: Option<Source> = None;
