@@ -104,7 +104,7 @@ impl Outcome {
 }
 
 impl Machines {
-    // So many machines as they begin, 1 to 4 of them.
+    // So many machines as they begin, at most four; more are refused.
     pub fn new(count: usize) -> Option<Self>
         ensures { λ r. ⌜ BySome r (4 < count) (λ ms. (count ≤ 4) × ((words : List ℕ) → manual-of ms words [] ≡ begins rv count (lines-of (length words / 8) words))) ⌝ }
     {
