@@ -1,4 +1,6 @@
 // Turns the source of a program into a memory for the chip.
+#![tactic(auto)]
+
 mod messages;
 mod options;
 

@@ -1,5 +1,7 @@
 // The board around a chip, in lent words: memory, and after it the row of lines that wait.
 // Everything is tested before anything is written, so that a refusal changes nothing.
+#![tactic(auto)]
+
 ghost use Rattle.std.specs.Prelude.{◌≡◌, ◌+◌, ◌*◌, ◌≤◌, [], ◌++◌, map, length, IfOk, OnErr, OnOk};
 ghost use Rattle.std.specs.Result.{result_err};
 ghost use Rattle.cores.specs.Board.{asked, due, handed, kept, later, new_board, with_lines};

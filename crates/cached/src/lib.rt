@@ -1,4 +1,6 @@
 // The chip: four cores with caches, a directory, messages between them, and a turn, in lent words; and what it promises.
+#![tactic(auto)]
+
 mod act;
 mod attempt;
 pub mod control;

@@ -1,4 +1,6 @@
 // The chip on the board: run by choices, and on the steady board.
+#![tactic(auto)]
+
 mod cycles;
 pub mod listener;
 pub mod recorder;

@@ -1,4 +1,6 @@
 // Runs a memory on the chip, cycle by cycle.
+#![tactic(auto)]
+
 mod options;
 
 use anyhow::anyhow;

@@ -1,5 +1,7 @@
 // Machines that take turns at one memory, the board around a chip, what a chip promises, and what it owes for that.
 // A theorem over every chip cannot stand on a function; its instance for a small chip can, so that what a chip owes is known to be payable.
+#![tactic(auto)]
+
 ghost use Rattle.cores.specs.Programs.{ProgramsSay};
 ghost use Rattle.cores.specs.Promise.{AllGoOn, CleanAfter, Few, OneEach, SameSaid, Taken, WhenRaised, WhereLet};
 ghost use Rattle.cores.specs.Runs.{ToyRuns};

@@ -1,4 +1,6 @@
 // The word of each instruction, for an assembler.
+#![tactic(auto)]
+
 pub mod encoding;
 mod format;
 pub mod misfit;

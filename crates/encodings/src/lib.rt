@@ -1,4 +1,6 @@
 // Instructions encoded, and held to words from outside: see tools/encodings.py.
+#![tactic(auto)]
+
 use encode::order::Order;
 use rv32::instruction::Instruction;
 

@@ -1,4 +1,6 @@
 // Runs memories on the chip and the steady board, then the chip's events on the machines, and prints what both say.
+#![tactic(auto)]
+
 use cores::port::Event;
 use image::{load, read_header};
 use reference::machines::{Machines, Outcome};

@@ -1,4 +1,6 @@
 // Memories and choices as bytes: what they say, and how they are refused.
+#![tactic(auto)]
+
 mod accept;
 mod choices;
 mod laws;

@@ -1,4 +1,6 @@
 // Statements of an assembler, laid out in memory.
+#![tactic(auto)]
+
 mod fault;
 mod laws;
 mod lay;

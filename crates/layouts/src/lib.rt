@@ -1,3 +1,5 @@
 // Layouts held to what another assembler gives.
+#![tactic(auto)]
+
 #[cfg(test)]
 mod tests;

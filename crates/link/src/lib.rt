@@ -1,4 +1,6 @@
 // What is on its way from the directory to a core: a grant and a probe, in lent words.
+#![tactic(auto)]
+
 ghost use Rattle.std.specs.Prelude.{◌≡◌, ◌*◌, ◌%◌, ◌<◌, length, slice_index};
 ghost use Rattle.words.specs.Parts.{block};
 ghost use Rattle.link.specs.Words.{flag};

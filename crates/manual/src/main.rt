@@ -1,4 +1,6 @@
 // Runs a memory on the manual's machines, event by event.
+#![tactic(auto)]
+
 mod options;
 
 use anyhow::anyhow;

@@ -1,4 +1,6 @@
 // RV32I with AMOADD.W, AMOSWAP.W and MRET, and the devices of a core.
+#![tactic(auto)]
+
 pub mod core;
 pub mod decode;
 pub mod execute;

@@ -1,3 +1,5 @@
 // Sources with faults, and what is said of them.
+#![tactic(auto)]
+
 #[cfg(test)]
 mod tests;

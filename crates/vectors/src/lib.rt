@@ -1,4 +1,5 @@
 // Instructions run against values from outside: see tools/vectors.py.
+#![tactic(auto)]
 
 // An instruction word, what x5 and x6 have before it, and what x7, the data word and pc have after it.
 #[derive(Clone, Copy)]

@@ -1,3 +1,5 @@
 // Words of 32 bits, and lent slices of them read and written in parts.
+#![tactic(auto)]
+
 pub mod line;
 pub mod word;

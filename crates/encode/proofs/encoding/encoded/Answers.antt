@@ -5,4 +5,4 @@ use Rattle.encode.proofs.encoding.encoded.Goals as goal
 
 pub returns : goal.returns
 unfolding encode misfit
-returns c = record { value = c.by-format.ensures; exact = exact c.args.instruction c.by-format.result c.by-format.ensures }
+returns c = record { value = c.by_format.ensures; exact = exact c.args.instruction c.by_format.result c.by_format.ensures }

@@ -6,9 +6,9 @@ use Rattle.encode.proofs.order.ordered.Goals as goal
 
 pub returns : goal.returns
 returns c =
-    let e = sym c.with-marks.ensures in
+    let e = sym c.with_marks.ensures in
     record {
-      value = c.with-marks.ensures;
+      value = c.with_marks.ensures;
       marked = subst (Marked c.args.order) e (marked c.args.word c.args.order);
       same = subst (SameAmo c.args.word) e (same_amo c.args.word c.args.order);
     }

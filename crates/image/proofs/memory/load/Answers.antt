@@ -7,5 +7,5 @@ pub returns : goal.returns
 returns c =
     record {
       value = search rules;
-      after = words_of_memory c.args.bytes.now _ _ _ c.in-ok-header.ensures.fits.long c.read-words.ensures;
+      after = words_of_memory c.args.bytes.now _ _ _ c.in_ok-header.ensures.fits.long c.read_words.ensures;
     }

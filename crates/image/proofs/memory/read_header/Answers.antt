@@ -4,4 +4,4 @@ use Rattle.image.proofs.memory.read_header.Goals as goal
 
 pub returns : goal.returns
 unfolding header_of
-returns c = c.read-fields.ensures
+returns c = c.read_fields.ensures

@@ -5,7 +5,7 @@ use Rattle.image.proofs.memory.read_words.Goals as goal
 
 pub loop-i-preserved : goal.loop-i-preserved
 loop-i-preserved c = (
-  read_more _ c.loop-i.memory c.loop-i.i _ c.word-at.ensures (omega arith) (omega arith) c.loop-i.invariant.0,
+  read_more _ c.loop-i.memory c.loop-i.i _ c.word_at.ensures (omega arith) (omega arith) c.loop-i.invariant.0,
   rest_more c.loop-i.memory c.args.memory.now c.loop-i.i _ c.loop-i.invariant.1,
 )
 

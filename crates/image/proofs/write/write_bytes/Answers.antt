@@ -4,4 +4,4 @@ use Rattle.image.proofs.Writes.{part_written}
 use Rattle.image.proofs.write.write_bytes.Goals as goal
 
 pub returns : goal.returns
-returns c = part_written _ _ c.args.bytes.now _ _ c.copy-from-slice.ensures.after (omega arith)
+returns c = part_written _ _ c.args.bytes.now _ _ c.copy_from_slice.ensures.after (omega arith)

@@ -4,4 +4,4 @@ use Rattle.rv32.proofs.decode.decoded.Goals as goal
 
 pub returns : goal.returns
 unfolding decode
-returns c = c.by-opcode.ensures
+returns c = c.by_opcode.ensures

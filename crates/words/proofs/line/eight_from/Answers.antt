@@ -6,4 +6,4 @@ use Rattle.words.proofs.line.eight_from.Goals as goal
 pub returns : goal.returns
 returns c =
     let e : (c.args.a + 8) - c.args.a ≡ 8 = omega arith in
-    c.copy-from-slice.ensures.after ∙ part_is _ 8 _ c.args.words.now e
+    c.copy_from_slice.ensures.after ∙ part_is _ 8 _ c.args.words.now e

@@ -3,12 +3,12 @@ use Rattle.std.proofs.Common.{arith}
 use Rattle.words.proofs.Fields.{field_within, replace_fits, old_shifted, new_shifted}
 use Rattle.words.proofs.word.replaced.Goals as goal
 
-pub overflow-sub-result : goal.overflow-sub-result
-overflow-sub-result c =
+pub overflow_sub-result : goal.overflow_sub-result
+overflow_sub-result c =
     omega (arith, field_within c.args.word c.args.low c.args.size, old_shifted c.args.word c.args.low c.args.size c.bits.result c.ranges.word.fits c.bits.ensures)
 
-pub overflow-add-result : goal.overflow-add-result
-overflow-add-result c =
+pub overflow_add-result : goal.overflow_add-result
+overflow_add-result c =
     record {
       fits =
           omega (
