@@ -1,7 +1,7 @@
 -- A core's own cache, and the caches of all cores: what each finds there. The statements are laws whose proofs are owed.
 -- Assumes nothing: these are definitions.
 use Rattle.std.specs.Prelude.{◌≡◌, ℕ, suc, ◌+◌, ◌*◌, ◌/◌, ◌%◌, ◌<◌, Bool, List, ◌==◌}
-use Rattle.rv32.specs.declared.core.Need.{Need}
+use Rattle.rv32.specs.declared.core_state.Need.{Need}
 use Rattle.words.specs.Parts.{block}
 use Rattle.cores.specs.Machines.{pick}
 use Rattle.cores.specs.Put.{put}

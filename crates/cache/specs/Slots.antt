@@ -1,8 +1,8 @@
 -- The caches: what a slot has, where a line may be, the word that a core's cache gives, and the line that an instruction lacks.
 -- Assumes nothing: these are definitions.
 use Rattle.std.specs.Prelude.{ℕ, suc, ◌+◌, ◌*◌, ◌/◌, ◌%◌, Bool, true, false, List, [], ◌∷◌, replicate, ◌==◌, slice_index}
-use Rattle.rv32.specs.declared.core.Need.{Need}
-use Rattle.rv32.specs.declared.core.Need.TheVariants.{Nothing, Read, Write}
+use Rattle.rv32.specs.declared.core_state.Need.{Need}
+use Rattle.rv32.specs.declared.core_state.Need.TheVariants.{Nothing, Read, Write}
 use Rattle.cores.specs.Machines.{pick}
 
 -- what a slot has: nothing, or a line: its number, whether it is owned, so that it may be written, whether it is dirty, so that memory's is older, and its words

@@ -8,7 +8,7 @@ ghost use Rattle.cache.specs.Words.{caches_of, content_of, lack_of, stored_in};
 use crate::content::{content_from, has_from, is_empty_from, put_slot};
 use crate::lookup;
 use crate::slot::{Content, Lack};
-use rv32::core::Need;
+use rv32::core_state::Need;
 
 // A place with its words.
 pub fn content_at(caches: &[u32], place: usize) -> Content

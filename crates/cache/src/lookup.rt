@@ -6,7 +6,7 @@ ghost use Rattle.cache.specs.Words.{content_of, found_of, holding, lack_of, slot
 
 use crate::content::{content_from, has_from, is_empty_from, owns_from, put_slot, slot_from};
 use crate::slot::{Content, Lack, Slot};
-use rv32::core::Need;
+use rv32::core_state::Need;
 
 // Slot i with its words.
 pub fn content_at(cache: &[u32], i: usize) -> Content

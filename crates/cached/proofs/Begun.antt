@@ -6,7 +6,7 @@ use Rattle.std.proofs.lemmas.Bool.{cases_eq, cases_lt, eq-eqb, le-ltb, lt-ltb, n
 use Rattle.words.specs.Parts.{part}
 use Rattle.words.proofs.Parts.{part_word}
 use Rattle.rv32.specs.Execute.{start}
-use Rattle.rv32.specs.declared.core.Core.{Core}
+use Rattle.rv32.specs.declared.core_state.Core.{Core}
 use Rattle.cores.specs.Machines.{pick}
 use Rattle.cores.specs.Put.{put}
 use Rattle.cache.proofs.Written.{caches_clear, picked, unpicked}

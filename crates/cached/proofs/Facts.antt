@@ -1,7 +1,7 @@
 -- Small facts of slots, messages, requests and needs that the other proofs share.
 use Rattle.std.proofs.Common.{◌≡◌, ℕ, ◌/◌, ◌<◌, ◌≤◌, Bool, true, false, ◌≢◌, refl, ap, ◌∙◌, arith}
-use Rattle.rv32.specs.declared.core.Need.{Need}
-use Rattle.rv32.specs.declared.core.Need.TheVariants.{Nothing, Read, Write}
+use Rattle.rv32.specs.declared.core_state.Need.{Need}
+use Rattle.rv32.specs.declared.core_state.Need.TheVariants.{Nothing, Read, Write}
 use Rattle.cores.specs.Put.{put}
 use Rattle.cache.specs.Slots.{Slot, has, Lack, ready, lacks}
 use Rattle.link.specs.Messages.{Grant, quiet, grant, is_quiet, Probe, unasked, ask, is_unasked, all_unasked}

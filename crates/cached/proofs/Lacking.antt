@@ -4,10 +4,10 @@ use mathlib.Core.Path.{fun_ext}
 use Rattle.rv32.specs.Decode.{decode}
 use Rattle.rv32.specs.Execute.{did, execute, fetch, need, one}
 use Rattle.rv32.specs.Laws.{Supplied}
-use Rattle.rv32.specs.declared.core.Core.{Core}
-use Rattle.rv32.specs.declared.core.Effect.{Effect}
-use Rattle.rv32.specs.declared.core.Need.{Need}
-use Rattle.rv32.specs.declared.core.Need.TheVariants.{Read}
+use Rattle.rv32.specs.declared.core_state.Core.{Core}
+use Rattle.rv32.specs.declared.core_state.Effect.{Effect}
+use Rattle.rv32.specs.declared.core_state.Need.{Need}
+use Rattle.rv32.specs.declared.core_state.Need.TheVariants.{Read}
 use Rattle.rv32.specs.declared.instruction.Instruction.{Instruction}
 use Rattle.rv32.proofs.Laws.{done}
 use Rattle.cache.specs.Own.{Own}

@@ -1,7 +1,7 @@
 -- The row of lines that are waited for: each is given, or has a cycle less to go.
 use Rattle.std.proofs.Common.{◌≡◌, ℕ, suc, ◌-◌, ◌≤◌, Bool, true, false, ◌||◌, eqb, List, [], ◌∷◌, ◌++◌, get_or, refl, arith}
-use Rattle.rv32.specs.declared.core.Need.{Need}
-use Rattle.rv32.specs.declared.core.Need.TheVariants.{Nothing, Read, Write}
+use Rattle.rv32.specs.declared.core_state.Need.{Need}
+use Rattle.rv32.specs.declared.core_state.Need.TheVariants.{Nothing, Read, Write}
 use Rattle.cores.specs.Board.{later, due, asked}
 use Rattle.cores.specs.Machines.{pick}
 use Rattle.cores.specs.Owed.{Timely}

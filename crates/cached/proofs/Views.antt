@@ -1,7 +1,7 @@
 -- What a core does depends on its own places of the cache, and on its own registers and messages.
 use Rattle.std.proofs.Common.{◌≡◌, ℕ, suc, ◌/◌, refl, ap, ◌∙◌, inl, inr}
-use Rattle.rv32.specs.declared.core.Need.{Need}
-use Rattle.rv32.specs.declared.core.Need.TheVariants.{Nothing, Read, Write}
+use Rattle.rv32.specs.declared.core_state.Need.{Need}
+use Rattle.rv32.specs.declared.core_state.Need.TheVariants.{Nothing, Read, Write}
 use Rattle.cores.specs.Machines.{pick}
 use Rattle.cached.specs.Soc.{State, may_send, lacked}
 use Rattle.cached.specs.Kind.{Kind, code, operand}

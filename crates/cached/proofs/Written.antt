@@ -7,7 +7,7 @@ use Rattle.std.proofs.lemmas.Bool.{cases_eq, cases_order, lt-ltb}
 use Rattle.words.specs.Parts.{part, block}
 use Rattle.words.proofs.Parts.{part_is, part_here, part_other, part_part, apart}
 use Rattle.rv32.specs.Execute.{start}
-use Rattle.rv32.specs.declared.core.Core.{Core}
+use Rattle.rv32.specs.declared.core_state.Core.{Core}
 use Rattle.cores.specs.Machines.{pick}
 use Rattle.cores.specs.Put.{put}
 use Rattle.cache.specs.Own.{Own, with_own}

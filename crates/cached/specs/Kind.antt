@@ -2,8 +2,8 @@
 -- Assumes nothing: these are definitions.
 use Rattle.std.specs.Prelude.{◌≡◌, ℕ, ◌/◌, ◌^◌, ◌<◌, false, Some, None, Option}
 use Rattle.rv32.specs.Did.{Did, goes, stores, says, stops}
-use Rattle.rv32.specs.declared.core.Need.{Need}
-use Rattle.rv32.specs.declared.core.Need.TheVariants.{Nothing, Read, Write}
+use Rattle.rv32.specs.declared.core_state.Need.{Need}
+use Rattle.rv32.specs.declared.core_state.Need.TheVariants.{Nothing, Read, Write}
 use Rattle.cores.specs.Machines.{Isa}
 
 -- a kind of core; for a memory of so many lines, the number of the word that the next instruction is fetched from; and what the instruction needs

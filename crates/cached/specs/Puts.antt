@@ -1,7 +1,7 @@
 -- What the steps of a cycle put out, over the values that the code has.
 -- Assumes nothing: these are definitions.
 use Rattle.std.specs.Prelude.{◌≡◌, ℕ, zero, suc, ◌+◌, ◌*◌, Bool, true, false, not, ◌||◌, List, [], ◌∷◌, ◌++◌, Some, None, Option, ◌==◌, ◌≢◌}
-use Rattle.rv32.specs.declared.core.Core.{Core}
+use Rattle.rv32.specs.declared.core_state.Core.{Core}
 use Rattle.cores.specs.Board.{Out}
 use Rattle.cores.specs.Loop as loop
 use Rattle.cores.specs.Ports.{event_of, line_of, said_at, somes}

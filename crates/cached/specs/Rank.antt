@@ -1,8 +1,8 @@
 -- What holds of probes and requests, and how far the core whose turn it is is from its next instruction.
 -- Assumes nothing: these are definitions.
 use Rattle.std.specs.Prelude.{◌≡◌, ℕ, ◌+◌, ◌*◌, ◌/◌, Bool, true, false, not, ◌&&◌, ◌||◌, List, [], ◌∷◌, ◌==◌}
-use Rattle.rv32.specs.declared.core.Need.{Need}
-use Rattle.rv32.specs.declared.core.Need.TheVariants.{Nothing, Read, Write}
+use Rattle.rv32.specs.declared.core_state.Need.{Need}
+use Rattle.rv32.specs.declared.core_state.Need.TheVariants.{Nothing, Read, Write}
 use Rattle.cores.specs.Machines.{pick}
 use Rattle.cached.specs.Kind.{Kind, code, operand}
 use Rattle.cache.specs.Slots.{Slot, empty, holds, cached, Lack, ready, lacks, seek}

@@ -21,7 +21,7 @@ use cache::lookup::place_for as slot_for;
 use cache::slot::Lack;
 use cores::port::{Event, Line};
 use directory::request::{Access, Request, Stage};
-use rv32::core::{Core, Effect};
+use rv32::core_state::{Core, Effect};
 
 // Core k may send a message: it has answered nothing in this cycle, and nothing is asked of it.
 fn may_send(chip: &[u32], k: usize) -> bool

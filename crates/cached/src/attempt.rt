@@ -11,7 +11,7 @@ ghost use Rattle.cached.specs.Soc.{spoken};
 
 use cache::lookup::{lack, word};
 use cache::slot::Lack;
-use rv32::core::{Core, Effect, Need};
+use rv32::core_state::{Core, Effect, Need};
 use rv32::decode::decoded;
 
 // The word that an instruction needs, or 0.

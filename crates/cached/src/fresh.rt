@@ -7,7 +7,7 @@ ghost use Rattle.cached.specs.Stopped.{all_off, stopped_fault};
 
 use crate::control::{Control, Fault};
 use crate::state::{is_on, set_control, set_core, set_due, set_on};
-use rv32::core::Core;
+use rv32::core_state::Core;
 
 // A new chip, on the words that are used: all words are 0, which makes empty slots, entries, requests and messages, but for the cores and what they share.
 fn begin(chip: &mut [u32], cores: usize, lines: u32)

@@ -4,7 +4,7 @@ ghost use Rattle.cores.specs.Put.{put};
 ghost use Rattle.cached.specs.Layout.{control_of, core_of, cpus_of, dues_of, ons_of, shared, state_of, sweeps_of, with_cpus, with_dues, with_ons, with_shared, with_sweeps};
 
 use crate::control::Control;
-use rv32::core::Core;
+use rv32::core_state::Core;
 
 fn read_core(block: &[u32]) -> Core
     requires { length block.now ≡ 35 }

@@ -7,17 +7,17 @@ use Rattle.words.specs.Parts.{lines}
 use Rattle.cores.specs.Machines.{word, with_word, Core, Manual, core, after, event, events, begins, fresh_cores, step, interrupt, pick}
 use Rattle.cores.specs.Rv32.{rv32}
 use Rattle.rv32.specs.Execute.{did, enters, one, start}
-use Rattle.rv32.specs.declared.core.Effect.{Effect}
-use Rattle.rv32.specs.declared.core.Effect.TheVariants.{Goes, Stores, Says, Stops}
-use Rattle.rv32.specs.declared.core.Core as registers
+use Rattle.rv32.specs.declared.core_state.Effect.{Effect}
+use Rattle.rv32.specs.declared.core_state.Effect.TheVariants.{Goes, Stores, Says, Stops}
+use Rattle.rv32.specs.declared.core_state.Core as registers
 use Rattle.reference.specs.Read.{OnAt, Performed, core_of, there, machine_after, manual_of, new_machine, outcome, outcome_of, spoken, words_after}
 use Rattle.reference.specs.declared.machines.Outcome.{Outcome}
 use Rattle.reference.specs.declared.machines.Outcome.TheVariants.{Done, Off, NotLet}
 use Rattle.reference.specs.declared.machines.Machine.{Machine}
 use Rattle.reference.specs.declared.machines.Machines.{Machines}
 use Rattle.rv32.specs.Laws.{StoresWithin, Supplied, Within}
-use Rattle.rv32.specs.declared.core.Need.{Need}
-use Rattle.rv32.specs.declared.core.Need.TheVariants.{Nothing, Read, Write}
+use Rattle.rv32.specs.declared.core_state.Need.{Need}
+use Rattle.rv32.specs.declared.core_state.Need.TheVariants.{Nothing, Read, Write}
 
 picked : {A : Type 0} (b : Bool) (x y : A) → b ≡ true → pick b x y ≡ x
 picked b x y e = ap (λ c. pick c x y) e

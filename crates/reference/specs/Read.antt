@@ -4,9 +4,9 @@ use Rattle.std.specs.Prelude.{◌≡◌, ℕ, ◌/◌, ◌<◌, min, Bool, true,
 use Rattle.words.specs.Parts.{lines}
 use Rattle.rv32.specs.Did.{Did, goes, stores, says, stops}
 use Rattle.rv32.specs.Execute.{one, lets, start}
-use Rattle.rv32.specs.declared.core.Core as registers
-use Rattle.rv32.specs.declared.core.Effect.{Effect}
-use Rattle.rv32.specs.declared.core.Effect.TheVariants.{Goes, Stores, Says, Stops}
+use Rattle.rv32.specs.declared.core_state.Core as registers
+use Rattle.rv32.specs.declared.core_state.Effect.{Effect}
+use Rattle.rv32.specs.declared.core_state.Effect.TheVariants.{Goes, Stores, Says, Stops}
 use Rattle.cores.specs.Machines.{word, Event, step, interrupt, Core, Manual, core, event, events}
 use Rattle.cores.specs.Rv32.{rv32}
 use Rattle.reference.specs.declared.machines.Machine.{Machine}

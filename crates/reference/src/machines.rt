@@ -1,5 +1,5 @@
 // The machines, and what an event comes to.
-use rv32::core::Core;
+use rv32::core_state::Core;
 
 // One of the machines: its registers, and whether it still goes.
 #[derive(Clone, Copy)]

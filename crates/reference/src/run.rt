@@ -11,7 +11,7 @@ ghost use Rattle.reference.specs.declared.machines.Fault.TheVariants.{TooLarge};
 
 use crate::machines::*;
 use cores::port::Event;
-use rv32::core::{Core, Effect, Need};
+use rv32::core_state::{Core, Effect, Need};
 use rv32::decode::decoded;
 
 // The word that an instruction needs, or 0.

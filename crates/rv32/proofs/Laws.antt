@@ -6,11 +6,11 @@ use Rattle.rv32.specs.Did.{stops}
 use Rattle.rv32.specs.Decode.{decode}
 use Rattle.rv32.specs.Execute.{address, did, does, execute, need, fetch, load_size, next, one, reaches, register, store_size, tells, with_lets}
 use Rattle.rv32.specs.Laws.{TwoWords, NoData, Supplied, SuppliedDoes, Within, NeedsWithin, StoredAt, StoresNeeded, StoresWithin}
-use Rattle.rv32.specs.declared.core.Core.{Core}
-use Rattle.rv32.specs.declared.core.Effect.{Effect}
-use Rattle.rv32.specs.declared.core.Effect.TheVariants.{Goes, Stores, Says, Stops}
-use Rattle.rv32.specs.declared.core.Need.{Need}
-use Rattle.rv32.specs.declared.core.Need.TheVariants.{Nothing, Read, Write}
+use Rattle.rv32.specs.declared.core_state.Core.{Core}
+use Rattle.rv32.specs.declared.core_state.Effect.{Effect}
+use Rattle.rv32.specs.declared.core_state.Effect.TheVariants.{Goes, Stores, Says, Stops}
+use Rattle.rv32.specs.declared.core_state.Need.{Need}
+use Rattle.rv32.specs.declared.core_state.Need.TheVariants.{Nothing, Read, Write}
 use Rattle.rv32.specs.declared.instruction.Instruction.{Instruction}
 use Rattle.rv32.specs.declared.instruction.Instruction.TheVariants.{Lui, Auipc, Jal, Jalr, Branch, Load, Store, OpImm, Op, Amo, Fence, Ecall, Ebreak, Mret, Illegal}
 

@@ -11,9 +11,9 @@ use Rattle.rv32.specs.Arithmetic.{add, sub, signed_below, bit}
 use Rattle.rv32.specs.Decode.{Table, amo_words, amos, branches, decode, fences, funct3, funct5, funct7, immediate_i, jalrs, left_shifts, loads as load-table, op_imms, opcode, opcodes, ops, other_ops, plain_ops, right_shifts, rs2, select, stores, systems}
 use Rattle.rv32.specs.Execute.{at, combined, enters, epc_address, execute, let_address, load_size, loaded, loads, next, operate, puts, reaches, register, returns, say_address, start, store_size, stored, swaps, taken, tells, with_lets, with_register}
 use Rattle.rv32.specs.Laws.{WellFormed, WellFormedEffect, KeepsWords, InterruptKeepsWords, StartsWithWords}
-use Rattle.rv32.specs.declared.core.Core.{Core}
-use Rattle.rv32.specs.declared.core.Effect.{Effect}
-use Rattle.rv32.specs.declared.core.Effect.TheVariants.{Goes, Stores, Says, Stops}
+use Rattle.rv32.specs.declared.core_state.Core.{Core}
+use Rattle.rv32.specs.declared.core_state.Effect.{Effect}
+use Rattle.rv32.specs.declared.core_state.Effect.TheVariants.{Goes, Stores, Says, Stops}
 use Rattle.rv32.specs.declared.instruction.Instruction.{Instruction}
 use Rattle.rv32.specs.declared.instruction.Instruction.TheVariants.{Lui, Auipc, Jal, Jalr, Branch, Load, Store, OpImm, Op, Amo, Fence, Ecall, Ebreak, Mret, Illegal}
 use Rattle.rv32.specs.declared.instruction.LoadKind.{LoadKind}

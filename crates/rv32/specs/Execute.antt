@@ -5,11 +5,11 @@ use Rattle.words.specs.Word.{extend, byte_at, half_at, with_byte, with_half}
 use Rattle.rv32.specs.Arithmetic.{add, sub, sll, srl, sra, signed_below, bit}
 use Rattle.rv32.specs.Decode.{decode}
 use Rattle.rv32.specs.Did.{Did, goes, stores, says, stops}
-use Rattle.rv32.specs.declared.core.Core.{Core}
-use Rattle.rv32.specs.declared.core.Effect.{Effect}
-use Rattle.rv32.specs.declared.core.Effect.TheVariants.{Goes, Stores, Says, Stops}
-use Rattle.rv32.specs.declared.core.Need.{Need}
-use Rattle.rv32.specs.declared.core.Need.TheVariants.{Nothing, Read, Write}
+use Rattle.rv32.specs.declared.core_state.Core.{Core}
+use Rattle.rv32.specs.declared.core_state.Effect.{Effect}
+use Rattle.rv32.specs.declared.core_state.Effect.TheVariants.{Goes, Stores, Says, Stops}
+use Rattle.rv32.specs.declared.core_state.Need.{Need}
+use Rattle.rv32.specs.declared.core_state.Need.TheVariants.{Nothing, Read, Write}
 use Rattle.rv32.specs.declared.instruction.Instruction.{Instruction}
 use Rattle.rv32.specs.declared.instruction.Instruction.TheVariants.{Lui, Auipc, Jal, Jalr, Branch, Load, Store, OpImm, Op, Amo, Fence, Ecall, Ebreak, Mret, Illegal}
 use Rattle.rv32.specs.declared.instruction.BranchKind.{BranchKind}

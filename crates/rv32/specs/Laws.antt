@@ -4,11 +4,11 @@ use Rattle.std.specs.Prelude.{◌≡◌, ℕ, ◌*◌, ◌/◌, ◌^◌, ◌<◌
 use Rattle.rv32.specs.Decode.{decode}
 use Rattle.rv32.specs.Did.{Did, goes, stores, says, stops}
 use Rattle.rv32.specs.Execute.{address, does, enters, execute, lets, need, one, start}
-use Rattle.rv32.specs.declared.core.Core.{Core}
-use Rattle.rv32.specs.declared.core.Effect.{Effect}
-use Rattle.rv32.specs.declared.core.Effect.TheVariants.{Goes, Stores, Says, Stops}
-use Rattle.rv32.specs.declared.core.Need.{Need}
-use Rattle.rv32.specs.declared.core.Need.TheVariants.{Nothing, Read, Write}
+use Rattle.rv32.specs.declared.core_state.Core.{Core}
+use Rattle.rv32.specs.declared.core_state.Effect.{Effect}
+use Rattle.rv32.specs.declared.core_state.Effect.TheVariants.{Goes, Stores, Says, Stops}
+use Rattle.rv32.specs.declared.core_state.Need.{Need}
+use Rattle.rv32.specs.declared.core_state.Need.TheVariants.{Nothing, Read, Write}
 use Rattle.rv32.specs.declared.instruction.Instruction.{Instruction}
 
 -- an instruction looks at two words of memory at most: the word at pc and the word at its address settle what it does

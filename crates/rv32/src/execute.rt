@@ -5,7 +5,7 @@ ghost use Rattle.rv32.specs.Execute.{at, combined, enters, execute, execute_rule
 ghost use Rattle.rv32.specs.Execute.{reaches, register, returns, start, store_size, stored, swaps, taken, tells, with_lets, with_register};
 ghost use Rattle.rv32.specs.Laws.{FetchedWithin, StoresWithin, Within};
 
-use crate::core::*;
+use crate::core_state::*;
 use crate::instruction::*;
 use words::word::{byte_at, half_at, sign_extended, with_byte, with_half};
 

@@ -1,7 +1,7 @@
 // RV32I with AMOADD.W, AMOSWAP.W and MRET, and the devices of a core.
 #![tactic(auto)]
 
-pub mod core;
+pub mod core_state;
 pub mod decode;
 pub mod execute;
 pub mod instruction;

@@ -8,7 +8,7 @@ use Rattle.std.proofs.lemmas.Bool.{cases_eq, lt-ltb, eq-eqb, ne_eqb}
 use Rattle.words.specs.Parts.{part, block}
 use Rattle.words.proofs.Parts.{part_here, part_other, part_part, put_length, apart}
 use Rattle.rv32.specs.Execute.{start}
-use Rattle.rv32.specs.declared.core.Core.{Core}
+use Rattle.rv32.specs.declared.core_state.Core.{Core}
 use Rattle.cores.specs.Machines.{pick}
 use Rattle.cores.specs.Put.{put}
 use Rattle.cores.specs.declared.port.Line.{Line}

@@ -4,11 +4,11 @@ use Rattle.rv32.specs.Did.{stores, stops}
 use Rattle.rv32.specs.Decode.{decode}
 use Rattle.rv32.specs.Execute.{did, execute, fetch, need, one}
 use Rattle.rv32.specs.Laws.{Supplied, Within as Within-words, StoredAt, WellFormed, WellFormedEffect}
-use Rattle.rv32.specs.declared.core.Core.{Core}
-use Rattle.rv32.specs.declared.core.Effect.{Effect}
-use Rattle.rv32.specs.declared.core.Effect.TheVariants.{Goes, Stores, Says, Stops}
-use Rattle.rv32.specs.declared.core.Need.{Need}
-use Rattle.rv32.specs.declared.core.Need.TheVariants.{Nothing, Read, Write}
+use Rattle.rv32.specs.declared.core_state.Core.{Core}
+use Rattle.rv32.specs.declared.core_state.Effect.{Effect}
+use Rattle.rv32.specs.declared.core_state.Effect.TheVariants.{Goes, Stores, Says, Stops}
+use Rattle.rv32.specs.declared.core_state.Need.{Need}
+use Rattle.rv32.specs.declared.core_state.Need.TheVariants.{Nothing, Read, Write}
 use Rattle.rv32.proofs.Laws.{done, not_done, fetch_within, needs_within, stores_needed}
 use Rattle.rv32.proofs.Words.{keeps_words, interrupt_keeps_words, starts_with_words}
 use Rattle.soc.specs.Kind.{needed, Agree, Within, Leaves, Laws}

@@ -3,7 +3,7 @@
 use Rattle.std.specs.Prelude.{ℕ, ◌%◌, min, Bool, not, ◌&&◌, List, Some, None, Option, ◌==◌, nat_lt, slice_index}
 use Rattle.words.specs.Parts.{part, block}
 use Rattle.rv32.specs.Execute.{start}
-use Rattle.rv32.specs.declared.core.Core.{Core}
+use Rattle.rv32.specs.declared.core_state.Core.{Core}
 use Rattle.cores.specs.Machines.{pick}
 use Rattle.cores.specs.Put.{put}
 use Rattle.cores.specs.declared.port.Line.{Line}

@@ -3,8 +3,8 @@
 use Rattle.std.specs.Prelude.{ℕ, Some, None, Option}
 use Rattle.rv32.specs.Decode.{decode}
 use Rattle.rv32.specs.Execute.{fetch, need}
-use Rattle.rv32.specs.declared.core.Need.{Need}
-use Rattle.rv32.specs.declared.core.Need.TheVariants.{Nothing, Read, Write}
+use Rattle.rv32.specs.declared.core_state.Need.{Need}
+use Rattle.rv32.specs.declared.core_state.Need.TheVariants.{Nothing, Read, Write}
 use Rattle.cores.specs.Rv32.{rv32}
 use Rattle.soc.specs.Kind.{Kind}
 

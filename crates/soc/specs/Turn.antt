@@ -2,7 +2,7 @@
 -- Assumes nothing: these are definitions.
 use Rattle.std.specs.Prelude.{◌≡◌, ℕ, ◌≤◌, List, [], ◌∷◌, Some, None, Option, slice_index_or}
 use Rattle.rv32.specs.Execute.{fetch}
-use Rattle.rv32.specs.declared.core.Core.{Core}
+use Rattle.rv32.specs.declared.core_state.Core.{Core}
 use Rattle.cores.specs.Machines.{pick, Event, step}
 use Rattle.cores.specs.Board.{Out}
 use Rattle.cores.specs.Loop.{silent}

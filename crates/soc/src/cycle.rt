@@ -14,7 +14,7 @@ use crate::control::{Act, Control, Fault};
 use crate::state::{control, core, is_on, set_control, set_core, set_on};
 use crate::turn::{core_after, goes_on, spoken};
 use cores::port::{Event, Line, Out};
-use rv32::core::{Core, Effect};
+use rv32::core_state::{Core, Effect};
 
 // A line comes for the core whose turn it is. At most one is asked for, so the first is all that come.
 fn receive(chip: &mut [u32], given: &[Line])

@@ -5,7 +5,7 @@ ghost use Rattle.soc.specs.Layout.{asked_of, buffer_of, control_of, core_of, cpu
 
 use crate::control::Control;
 use cores::port::Line;
-use rv32::core::Core;
+use rv32::core_state::Core;
 
 fn read_core(block: &[u32]) -> Core
     requires { length block.now ≡ 35 }

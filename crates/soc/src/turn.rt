@@ -11,7 +11,7 @@ ghost use Rattle.soc.specs.Turn.{filled, lacked, turned, words_in};
 
 use crate::control::Control;
 use cores::port::Line;
-use rv32::core::{Core, Effect, Need};
+use rv32::core_state::{Core, Effect, Need};
 use rv32::decode::decoded;
 
 fn holds(buffer: Option<Line>, a: u32) -> bool

@@ -1,7 +1,7 @@
 // Each vector of the table, and the words that stop a core.
 use crate::Vector;
 use crate::table::{DATA, PC, TABLE};
-use rv32::core::{Core, Effect};
+use rv32::core_state::{Core, Effect};
 use rv32::decode::decoded;
 
 // What x7, the data word and pc have after an instruction, in a memory of 32 lines; none where the core stops or says something.

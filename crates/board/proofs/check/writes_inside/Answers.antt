@@ -3,9 +3,9 @@ use Rattle.std.proofs.Common.{◌≡◌, true, false, ltb, sym, ◌∙◌, arith
 use Rattle.board.proofs.Writes.{outside_more, outside_none, outside_skip}
 use Rattle.board.proofs.check.writes_inside.Goals as goal
 
-pub writes-preserved-in-default : goal.writes-preserved-in-default
-writes-preserved-in-default c =
-    (outside_skip c.args.lines c.args.writes.now c.writes.write-index (omega arith) c.in-default.is ∙ c.writes.invariant.0, c.writes.invariant.1)
+pub writes-preserved-in_default : goal.writes-preserved-in_default
+writes-preserved-in_default c =
+    (outside_skip c.args.lines c.args.writes.now c.writes.write-index (omega arith) c.in_default.is ∙ c.writes.invariant.0, c.writes.invariant.1)
 
 pub writes-preserved : goal.writes-preserved
 writes-preserved c =

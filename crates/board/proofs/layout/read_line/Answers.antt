@@ -6,4 +6,4 @@ use Rattle.board.proofs.layout.read_line.Goals as goal
 pub returns : goal.returns
 returns c =
     let n = c.args.number in
-    ap {B = ℕ × List ℕ} (λ (ws : List ℕ). (n, ws)) (c.line-at.ensures ∙ sym (line_block c.args.lines n c.args.board.now (omega arith)))
+    ap {B = ℕ × List ℕ} (λ (ws : List ℕ). (n, ws)) (c.line_at.ensures ∙ sym (line_block c.args.lines n c.args.board.now (omega arith)))

@@ -10,6 +10,6 @@ returns c =
     record {
       value =
           ap (λ i. 64 * c.args.k + i) c.place_for.ensures.value
-          ∙ sym (choose_own c.args.k (caches_of c.args.caches.now) _ (own_view c.args.caches.now c.args.k _ (omega arith) e) c.args.line c.args.code-line c.args.way);
+          ∙ sym (choose_own c.args.k (caches_of c.args.caches.now) _ (own_view c.args.caches.now c.args.k _ (omega arith) e) c.args.line c.args.code_line c.args.way);
       within = omega arith;
     }

@@ -7,4 +7,4 @@ use Rattle.cache.proofs.content.content_from.Goals as goal
 pub returns : goal.returns
 returns c =
     let e : (c.args.a + 10) - c.args.a ≡ 10 = omega arith in
-    c.read-content.ensures ∙ ap slot_of (part_is _ 10 _ c.args.lent.now e)
+    c.read_content.ensures ∙ ap slot_of (part_is _ 10 _ c.args.lent.now e)

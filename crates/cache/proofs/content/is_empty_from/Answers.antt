@@ -6,4 +6,4 @@ use Rattle.cache.specs.Words.{slot_of}
 use Rattle.cache.proofs.content.is_empty_from.Goals as goal
 
 pub returns : goal.returns
-returns c = sym (c.is-empty.ensures (words (slot_of (part c.args.a 10 c.args.lent.now)))) ∙ ap is_empty c.slot-from.ensures
+returns c = sym (c.is_empty.ensures (words (slot_of (part c.args.a 10 c.args.lent.now)))) ∙ ap is_empty c.slot_from.ensures

@@ -5,4 +5,4 @@ use Rattle.cache.proofs.content.put_slot.Goals as goal
 
 pub returns : goal.returns
 returns c n h =
-    table_written n c.args.lent.now c.write-content.new.block c.args.i _ _ h (omega arith) (omega arith) (omega arith) c.write-content.ensures
+    table_written n c.args.lent.now c.write_content.new.block c.args.i _ _ h (omega arith) (omega arith) (omega arith) c.write_content.ensures

@@ -6,4 +6,4 @@ use Rattle.cache.proofs.content.read_content.Goals as goal
 
 pub returns : goal.returns
 unfolding part
-returns c = ap₂ holding c.tag.ensures c.copy-from-slice.ensures.after
+returns c = ap₂ holding c.tag.ensures c.copy_from_slice.ensures.after

@@ -6,5 +6,5 @@ use Rattle.cache.proofs.content.write_content.Goals as goal
 
 pub returns : goal.returns
 returns c =
-    slot_written c.args.block.now c.copy-from-slice.new.self c.copy-from-slice-2.new.self _ c.args.content.slot (omega arith) (omega arith) (omega arith)
-    (ap (λ t. tag_of (get_or t 0 0) (get_or t 1 0)) c.copy-from-slice.ensures.after ∙ c.tag-words.ensures) c.copy-from-slice-2.ensures.after
+    slot_written c.args.block.now c.copy_from_slice.new.self c.copy_from_slice-2.new.self _ c.args.content.slot (omega arith) (omega arith) (omega arith)
+    (ap (λ t. tag_of (get_or t 0 0) (get_or t 1 0)) c.copy_from_slice.ensures.after ∙ c.tag_words.ensures) c.copy_from_slice-2.ensures.after

@@ -6,8 +6,8 @@ use Rattle.cache.specs.Words.{slot_of}
 use Rattle.cache.proofs.Found.{slot_here, stored_slots}
 use Rattle.cache.proofs.lookup.store_at.Goals as goal
 
-pub store-in-requires : goal.store-in-requires
-store-in-requires c =
+pub store_in-requires : goal.store_in-requires
+store_in-requires c =
     let w = c.args.cache.now in
     let i = c.args.i in
     let e : (10 * i + 10) - 10 * i ≡ 10 = omega arith in (
@@ -20,5 +20,5 @@ returns c =
     let w = c.args.cache.now in
     let i = c.args.i in
     let e : (10 * i + 10) - 10 * i ≡ 10 = omega arith in
-    stored_slots w c.store-in.new.block i _ c.args.number c.args.value c.requires.1.0 (omega arith) (omega arith) e
-    (c.store-in.ensures ∙ ap (λ b. holds (c.args.number / 8) true true (set (words (slot_of b)) (c.args.number % 8) c.args.value)) (part_is (10 * i) 10 _ w e))
+    stored_slots w c.store_in.new.block i _ c.args.number c.args.value c.requires.1.0 (omega arith) (omega arith) e
+    (c.store_in.ensures ∙ ap (λ b. holds (c.args.number / 8) true true (set (words (slot_of b)) (c.args.number % 8) c.args.value)) (part_is (10 * i) 10 _ w e))

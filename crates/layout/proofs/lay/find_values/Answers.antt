@@ -6,8 +6,8 @@ use Rattle.layout.proofs.lay.find_values.Goals as goal
 
 pub returns : goal.returns
 returns c =
-    let zeros : vec_items c.in-ok-values.values ≡ replicate c.args.symbols 0 = c.in-ok-values.ensures.items-if-clones-equal (λ y e. e) in
-    let long : length c.name-all.new.values ≡ c.in-ok-values.values.len = c.name-all.auto.values ∙ c.as-mut-slice.ensures.len in
-    let lent : c.as-mut-slice.result.now ≡ replicate c.args.symbols 0 = c.as-mut-slice.ensures.value ∙ zeros in
-    let found : c.name-all.new.values ≡ values_of c.args.size c.args.symbols c.args.statements.now = rw (← lent) c.name-all.ensures in
-    take_at c.name-all.new.values _ _ long ∙ found
+    let zeros : vec_items c.in_ok-values.values ≡ replicate c.args.symbols 0 = c.in_ok-values.ensures.items_if_clones_equal (λ y e. e) in
+    let long : length c.name_all.new.values ≡ c.in_ok-values.values.len = c.name_all.auto.values ∙ c.as_mut_slice.ensures.len in
+    let lent : c.as_mut_slice.result.now ≡ replicate c.args.symbols 0 = c.as_mut_slice.ensures.value ∙ zeros in
+    let found : c.name_all.new.values ≡ values_of c.args.size c.args.symbols c.args.statements.now = rw (← lent) c.name_all.ensures in
+    take_at c.name_all.new.values _ _ long ∙ found

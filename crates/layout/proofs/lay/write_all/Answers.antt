@@ -11,7 +11,7 @@ pub loop-index-preserved : goal.loop-index-preserved
 loop-index-preserved c =
     let i = c.loop-index.index in
     let here = c.loop-index.here in (
-      faults_step c.args.size c.args.statements.now i here c.args.values.now (vec_items c.loop-index.faults) (vec_items c.note.new.faults) _ (result_err c.write-result.result) _ c.next-here.result c.loop-index-test.true c.in-ok-note.ensures c.write-result.ensures.value c.next-here.ensures.value c.loop-index.invariant.0,
+      faults_step c.args.size c.args.statements.now i here c.args.values.now (vec_items c.loop-index.faults) (vec_items c.note.new.faults) _ (result_err c.write-result.result) _ c.next-here.result c.loop-index-test.true c.in_ok-note.ensures c.write-result.ensures.value c.next-here.ensures.value c.loop-index.invariant.0,
       laid_step c.args.size c.args.statements.now i here c.args.values.now _ _ _ _ _ c.loop-index-test.true c.write-result.ensures.after c.next-here.ensures.value c.loop-index.invariant.1,
       c.next-here.ensures.inside c.loop-index.invariant.2,
     )

@@ -2,17 +2,17 @@
 use Rattle.std.proofs.Common.{◌≡◌, ℕ, List, get_or, sym, ap, ◌∙◌, subst}
 use Rattle.rv32.proofs.Laws.{done, not_done}
 use Rattle.rv32.specs.Decode.{decode}
-use Rattle.rv32.specs.Execute.{did, goal as needed}
+use Rattle.rv32.specs.Execute.{did, need as needed}
 use Rattle.rv32.specs.Laws.{Supplied, Within}
-use Rattle.rv32.specs.declared.core.Need.{Need}
+use Rattle.rv32.specs.declared.core_state.Need.{Need}
 use Rattle.cores.specs.Machines.{word}
 use Rattle.words.specs.Parts.{lines}
 use Rattle.reference.proofs.Agree.{supplied_lines, word_lines}
 use Rattle.reference.proofs.run.effect_of.Goals as goal
 
-pub returns-in-default : goal.returns-in-default
-returns-in-default c = record {
-  value = sym (not_done c.args.lines c.args.core (word (lines c.args.lines c.args.memory.now)) (sym c.fetches.ensures.value ∙ c.in-default.is));
+pub returns-in_default : goal.returns-in_default
+returns-in_default c = record {
+  value = sym (not_done c.args.lines c.args.core (word (lines c.args.lines c.args.memory.now)) (sym c.fetches.ensures.value ∙ c.in_default.is));
   within = tt;
 }
 

@@ -6,8 +6,8 @@ use Rattle.soc.proofs.cycle.begin.Goals as goal
 
 pub loop-k-preserved : goal.loop-k-preserved
 loop-k-preserved c =
-    begun_more (state_of c.loop-k.chip) (state_of c.set-core.new.chip) (state_of c.set-on.new.chip) c.loop-k.k c.args.cores c.new.result
-    c.set-core.ensures c.new.ensures c.set-on.ensures c.loop-k.invariant
+    begun_more (state_of c.loop-k.chip) (state_of c.set_core.new.chip) (state_of c.set_on.new.chip) c.loop-k.k c.args.cores c.new.result
+    c.set_core.ensures c.new.ensures c.set_on.ensures c.loop-k.invariant
 
 pub returns : goal.returns
-returns c = c.set-control.ensures ∙ begun c.loop-k.chip c.args.cores c.args.lines (omega arith) (λ j l. c.loop-k.invariant j (omega arith))
+returns c = c.set_control.ensures ∙ begun c.loop-k.chip c.args.cores c.args.lines (omega arith) (λ j l. c.loop-k.invariant j (omega arith))

@@ -10,7 +10,7 @@ use Rattle.soc.proofs.cycle.steps.Goals as goal
 
 pub returns : goal.returns
 returns c =
-    let row = only_did (somes event_of c.take-interrupts-did.result) in
+    let row = only_did (somes event_of c.take_interrupts-did.result) in
     ap (λ o. (state_of c.act-act.new.chip, o)) (c.put_out.ensures ∙ ap (λ (s : Control). joined row (put_out s.turn c.act-act.result)) c.control-k.ensures.value)
-    ∙ cycle_is (map line_of c.args.given.now) (λ k. get_or c.args.up k false) (state_of c.args.chip.now) (state_of c.receive.new.chip) (state_of c.take-interrupts-did.new.chip) (state_of c.act-act.new.chip) _ _
-    c.receive.ensures c.take-interrupts-did.ensures.state c.take-interrupts-did.ensures.out c.act-act.ensures.state c.act-act.ensures.out
+    ∙ cycle_is (map line_of c.args.given.now) (λ k. get_or c.args.up k false) (state_of c.args.chip.now) (state_of c.receive.new.chip) (state_of c.take_interrupts-did.new.chip) (state_of c.act-act.new.chip) _ _
+    c.receive.ensures c.take_interrupts-did.ensures.state c.take_interrupts-did.ensures.out c.act-act.ensures.state c.act-act.ensures.out

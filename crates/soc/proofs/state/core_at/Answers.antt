@@ -9,4 +9,4 @@ use Rattle.soc.proofs.state.core_at.Goals as goal
 pub returns : goal.returns
 returns c =
     let e : (35 * c.args.k + 35) - 35 * c.args.k ≡ 35 = omega arith in
-    c.read-core.ensures ∙ ap core_of (part_is _ 35 _ c.args.cores.now e) ∙ sym (picked _ _ _ (lt-ltb c.args.k 4 (omega arith)))
+    c.read_core.ensures ∙ ap core_of (part_is _ 35 _ c.args.cores.now e) ∙ sym (picked _ _ _ (lt-ltb c.args.k 4 (omega arith)))

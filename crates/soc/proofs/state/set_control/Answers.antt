@@ -8,5 +8,5 @@ use Rattle.soc.proofs.state.set_control.Goals as goal
 pub returns : goal.returns
 unfolding part state_of
 returns c =
-    wrote_control c.args.chip.now c.write-control.new.block (omega arith) (omega arith)
-    ∙ (λ i. let s = state_of c.args.chip.now in state_from s.cpu s.on (c.write-control.ensures i))
+    wrote_control c.args.chip.now c.write_control.new.block (omega arith) (omega arith)
+    ∙ (λ i. let s = state_of c.args.chip.now in state_from s.cpu s.on (c.write_control.ensures i))

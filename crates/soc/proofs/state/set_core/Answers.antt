@@ -8,5 +8,5 @@ use Rattle.soc.proofs.state.set_core.Goals as goal
 pub returns : goal.returns
 unfolding part state_of
 returns c =
-    wrote_cores c.args.chip.now c.put-core.new.cores (omega arith) (omega arith)
-    ∙ (λ i. let s = state_of c.args.chip.now in state_from (c.put-core.ensures i) s.on (shared s))
+    wrote_cores c.args.chip.now c.put_core.new.cores (omega arith) (omega arith)
+    ∙ (λ i. let s = state_of c.args.chip.now in state_from (c.put_core.ensures i) s.on (shared s))

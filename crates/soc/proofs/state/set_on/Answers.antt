@@ -8,5 +8,5 @@ use Rattle.soc.proofs.state.set_on.Goals as goal
 pub returns : goal.returns
 unfolding part state_of
 returns c =
-    wrote_ons c.args.chip.now c.put-on.new.ons (omega arith) (omega arith)
-    ∙ (λ i. let s = state_of c.args.chip.now in state_from s.cpu (c.put-on.ensures i) (shared s))
+    wrote_ons c.args.chip.now c.put_on.new.ons (omega arith) (omega arith)
+    ∙ (λ i. let s = state_of c.args.chip.now in state_from s.cpu (c.put_on.ensures i) (shared s))

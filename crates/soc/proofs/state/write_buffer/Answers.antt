@@ -5,5 +5,5 @@ use Rattle.soc.proofs.state.write_buffer.Goals as goal
 
 pub returns-in-Some : goal.returns-in-Some
 returns-in-Some c =
-    buffer_filled c.args.block.now c.copy-from-slice.new.self c.copy-from-slice-in-Some.new.self c.in-Some.line c.copy-from-slice.ensures.after c.copy-from-slice-in-Some.ensures.after (omega arith)
+    buffer_filled c.args.block.now c.copy_from_slice.new.self c.copy_from_slice-in-Some.new.self c.in-Some.line c.copy_from_slice.ensures.after c.copy_from_slice-in-Some.ensures.after (omega arith)
     ∙ sym c.in-Some.is

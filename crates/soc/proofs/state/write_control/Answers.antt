@@ -5,5 +5,5 @@ use Rattle.soc.proofs.state.write_control.Goals as goal
 
 pub returns : goal.returns
 returns c =
-    control_written c.args.block.now c.copy-from-slice.new.self c.write-buffer.new.block c.write-buffer-2.new.block c.args.control
-    (omega arith) (omega arith) (omega arith) (cc) (omega arith) (omega arith) c.write-buffer.ensures c.write-buffer-2.ensures
+    control_written c.args.block.now c.copy_from_slice.new.self c.write_buffer.new.block c.write_buffer-2.new.block c.args.control
+    (omega arith) (omega arith) (omega arith) (cc) (omega arith) (omega arith) c.write_buffer.ensures c.write_buffer-2.ensures

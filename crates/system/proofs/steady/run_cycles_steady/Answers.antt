@@ -10,8 +10,8 @@ loop-done-init g c = (
   omega arith,
 )
 
-pub cycle-steady-out-requires : goal.cycle-steady-out-requires
-cycle-steady-out-requires g c = (
+pub cycle_steady-out-requires : goal.cycle_steady-out-requires
+cycle_steady-out-requires g c = (
   omega arith,
   (
     omega arith,
@@ -23,8 +23,8 @@ cycle-steady-out-requires g c = (
 pub loop-done-preserved : goal.loop-done-preserved
 loop-done-preserved g c = (
   steady_next c.args.header.cores c.args.header.lines c.args.late (memory_of c.args.header.lines c.args.board.now) (g.L.Listener.said c.args.listener.now) (g.L.Listener.did c.args.listener.now)
-      c.loop-done.done c.loop-done.chip c.loop-done.board c.cycle-steady-out.new.chip c.cycle-steady-out.new.board
+      c.loop-done.done c.loop-done.chip c.loop-done.board c.cycle_steady-out.new.chip c.cycle_steady-out.new.board
       (g.L.Listener.said c.loop-done.listener) (g.L.Listener.said c.hear.new.self) (g.L.Listener.did c.loop-done.listener) (g.L.Listener.did c.hear.new.self)
-      c.cycle-steady-out.result c.cycle-steady-out.new.said c.loop-done.invariant.0 c.cycle-steady-out.ensures c.in-ok-hear.ensures.0 c.in-ok-hear.ensures.1,
+      c.cycle_steady-out.result c.cycle_steady-out.new.said c.loop-done.invariant.0 c.cycle_steady-out.ensures c.in_ok-hear.ensures.0 c.in_ok-hear.ensures.1,
   omega arith,
 )

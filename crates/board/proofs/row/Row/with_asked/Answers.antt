@@ -6,10 +6,10 @@ use Rattle.board.specs.Rows.{line_in, pair_in}
 use Rattle.board.proofs.Rows.{fits, pushed}
 use Rattle.board.proofs.row.Row.with_asked.Goals as goal
 
-pub returns-in-default : goal.returns-in-default
+pub returns-in_default : goal.returns-in_default
 unfolding asked
-returns-in-default c =
-    let e = c.in-default.is in
+returns-in_default c =
+    let e = c.in_default.is in
     record { lines = rw e (sym (append-nil _)); timed = rw e (sym (append-nil _)); count = c.requires; fault = rw e (fits _ (omega arith)) }
 
 pub returns : goal.returns

@@ -6,7 +6,7 @@ use Rattle.board.specs.Rows.{items_of, line_in}
 use Rattle.board.specs.declared.row.Row.{Row}
 use Rattle.board.proofs.Rows.{counted, kept_less, kept_more}
 use Rattle.board.proofs.row.Row.without.Goals as goal
-use Rattle.board.proofs.row.Row.without.Goals.{then-not-is-among, else-not-is-among}
+use Rattle.board.proofs.row.Row.without.Goals.{then-not-is_among, else-not-is_among}
 
 pub loop-i-init : goal.loop-i-init
 unfolding kept
@@ -17,14 +17,14 @@ loop-i-preserved c =
     let i = c.loop-i.i in
     let xs = c.args.self.items in
     let Again : Row → Type 0 = λ r. (map line_in (items_of r) ≡ kept c.args.places.now 0 (map line_in (take (i + 1) xs))) × (r.count ≤ i + 1) × (r.count ≡ length (items_of r)) in
-    elim c.if-not-is-among.branch [
-      | then-not-is-among w ↦ subst Again (sym w.row-is) (
-        kept_more c.args.places.now xs i (omega arith) c.loop-i.row c.loop-i.invariant.0 w.push-row.result (sym w.if-not-is-among.ensures) w.push-row.ensures.0,
+    elim c.if-not-is_among.branch [
+      | then-not-is_among w ↦ subst Again (sym w.row-is) (
+        kept_more c.args.places.now xs i (omega arith) c.loop-i.row c.loop-i.invariant.0 w.push-row.result (sym w.if-not-is_among.ensures) w.push-row.ensures.0,
         omega arith,
         counted c.loop-i.row w.push-row.result _ w.push-row.ensures.0 w.push-row.ensures.1 c.loop-i.invariant.2,
       )
-      | else-not-is-among w ↦ subst Again (sym w.row-is)
-          (kept_less c.args.places.now xs i (omega arith) c.loop-i.row c.loop-i.invariant.0 (sym w.if-not-is-among.ensures), omega arith, c.loop-i.invariant.2)
+      | else-not-is_among w ↦ subst Again (sym w.row-is)
+          (kept_less c.args.places.now xs i (omega arith) c.loop-i.row c.loop-i.invariant.0 (sym w.if-not-is_among.ensures), omega arith, c.loop-i.invariant.2)
     ]
 
 pub returns : goal.returns

@@ -3,8 +3,8 @@ use Rattle.std.proofs.Common.{◌≡◌, sym, refl, ap, ◌∙◌}
 use Rattle.reference.proofs.Agree.{off_interrupt, performed_interrupt}
 use Rattle.reference.proofs.machines.Machines.interrupt.Goals as goal
 
-pub returns-in-default : goal.returns-in-default
-returns-in-default c = λ words said. off_interrupt c.args.self.now words c.args.k said (c.in-default.ensures words said)
+pub returns-in_default : goal.returns-in_default
+returns-in_default c = λ words said. off_interrupt c.args.self.now words c.args.k said (c.in_default.ensures words said)
 
 pub returns-then-machine : goal.returns-then-machine
 returns-then-machine c =

@@ -2,11 +2,11 @@
 use Rattle.reference.proofs.Agree.{off_step, performed_step}
 use Rattle.reference.proofs.machines.Machines.step.Goals as goal
 
-pub returns-in-default : goal.returns-in-default
-returns-in-default c = λ said. off_step c.args.self.now c.args.memory.now c.args.k said (c.in-default.ensures c.args.memory.now said)
+pub returns-in_default : goal.returns-in_default
+returns-in_default c = λ said. off_step c.args.self.now c.args.memory.now c.args.k said (c.in_default.ensures c.args.memory.now said)
 
 pub returns : goal.returns
 returns c =
     rw (c.after.ensures, c.store.ensures, c.of.ensures)
-    (performed_step c.args.self.now c.args.memory.now c.args.k c.in-Some.machine c.in-Some.ensures c.effect-of-effect.result
-    c.effect-of-effect.ensures.value c.effect-of-effect.ensures.within)
+    (performed_step c.args.self.now c.args.memory.now c.args.k c.in-Some.machine c.in-Some.ensures c.effect_of-effect.result
+    c.effect_of-effect.ensures.value c.effect_of-effect.ensures.within)

@@ -1,6 +1,6 @@
 -- The shut definition is the open one.
 use Rattle.rv32.specs.Execute.{fetch}
-use Rattle.rv32.proofs.core.Core.fetches.Goals as goal
+use Rattle.rv32.proofs.core_state.Core.fetches.Goals as goal
 
 pub returns : goal.returns
 unfolding fetch
