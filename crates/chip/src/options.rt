@@ -21,8 +21,8 @@ pub struct Options {
 
 fn wrong(heap: Global, what: &str, word: &str) -> anyhow::Error {
     match format!(in heap; "{what}: {word} (see chip --help)") {
-        Ok(text) => text.into(),
-        Err(_) => "wrong arguments (see chip --help)".into(),
+        Ok(text) => anyhow!(text),
+        Err(_) => anyhow!("wrong arguments (see chip --help)"),
     }
 }
 

@@ -10,7 +10,7 @@ const NAMES: [&str; 32] = [
 
 // The register of a name: x0 to x31, or as the calling convention has it; fp is another name of s0.
 pub fn register_of(name: &[u8]) -> Option<usize> {
-    if name == b"fp" {
+    if name == b"fp".as_slice() {
         return Some(8);
     }
     for (i, other) in NAMES.iter().enumerate() {

@@ -88,9 +88,9 @@ fn do_row(
 fn no_event(heap: Global, line: u64, letter: u8) -> anyhow::Result<anyhow::Error> {
     let c = letter as char;
     if letter < 33 || letter > 126 {
-        return Ok(format!(in heap; "line {line}: byte {letter} is no event")?.into());
+        return Ok(anyhow!(format!(in heap; "line {line}: byte {letter} is no event")?));
     }
-    Ok(format!(in heap; "line {line}: '{c}' is no event")?.into())
+    Ok(anyhow!(format!(in heap; "line {line}: '{c}' is no event")?))
 }
 
 // The event of a letter, for so many cores.

@@ -19,8 +19,8 @@ pub struct Options {
 
 fn wrong(heap: Global, what: &str, word: &str) -> anyhow::Error {
     match format!(in heap; "{what}: {word} (see manual --help)") {
-        Ok(text) => text.into(),
-        Err(_) => "wrong arguments (see manual --help)".into(),
+        Ok(text) => anyhow!(text),
+        Err(_) => anyhow!("wrong arguments (see manual --help)"),
     }
 }
 

@@ -4,4 +4,4 @@ use Rattle.lexicon.proofs.Digits.{after_two}
 use Rattle.lexicon.proofs.literal.number.Goals as goal
 
 pub returns-then-text-ge2 : goal.returns-then-text-ge2
-returns-then-text-ge2 c = after_two _ c.args.text.now (sym c.is-hexadecimal.ensures ∙ c.if-is-hexadecimal.true) c.in-base.ensures
+returns-then-text-ge2 c = after_two _ c.args.text.now (sym c.is_hexadecimal.ensures ∙ c.if-is_hexadecimal.true) c.in_base.ensures
