@@ -180,9 +180,9 @@ pub(crate) fn value<'a>(
         return sum(reader, symbols, line, Part::Whole);
     }
     let name = reader.word();
-    let part = if name == b"hi" {
+    let part = if name == b"hi".as_slice() {
         Part::High
-    } else if name == b"lo" {
+    } else if name == b"lo".as_slice() {
         Part::Low
     } else {
         return Err(Unread::At(column, Expected::Value));

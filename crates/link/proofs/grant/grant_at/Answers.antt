@@ -8,6 +8,6 @@ use Rattle.link.proofs.grant.grant_at.Goals as goal
 pub returns : goal.returns
 returns c =
     record {
-      value = c.read-grant.ensures.value c.args.k ∙ block_read grant_in quiet 4 12 c.args.k c.args.grants.now (omega arith);
-      inside = c.read-grant.ensures.inside;
+      value = c.read_grant.ensures.value c.args.k ∙ block_read grant_in quiet 4 12 c.args.k c.args.grants.now (omega arith);
+      inside = c.read_grant.ensures.inside;
     }

@@ -7,5 +7,5 @@ use Rattle.link.proofs.grant.put_grant.Goals as goal
 
 pub returns : goal.returns
 returns c =
-    block_written grant_in quiet 4 12 c.args.k c.args.grants.now (omega arith) c.write-grant.new.block _ (omega arith) (omega arith)
-    (c.write-grant.ensures c.args.k)
+    block_written grant_in quiet 4 12 c.args.k c.args.grants.now (omega arith) c.write_grant.new.block _ (omega arith) (omega arith)
+    (c.write_grant.ensures c.args.k)

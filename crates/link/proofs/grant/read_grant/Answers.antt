@@ -12,6 +12,6 @@ unfolding part
 returns c =
     let full : flag (get_or c.args.block.now 0 0) ≡ true = grind (arith, nat_tests) in
     record {
-      value = λ k. grant_read c.args.block.now k c.slot-in.result (content_of c.read-content.result) full c.slot-in.ensures c.read-content.ensures;
+      value = λ k. grant_read c.args.block.now k c.slot_in.result (content_of c.read_content.result) full c.slot_in.ensures c.read_content.ensures;
       inside = omega arith;
     }

@@ -6,5 +6,5 @@ use Rattle.link.proofs.grant.write_grant.Goals as goal
 
 pub returns-in-Some : goal.returns-in-Some
 returns-in-Some c = λ k.
-    grant_written c.args.block.now c.copy-from-slice.new.self c.write-content.new.block c.in-Some.grant k (omega arith) (subst GrantInside c.in-Some.is c.requires.1) c.copy-from-slice.ensures.after (omega arith) c.write-content.ensures
+    grant_written c.args.block.now c.copy_from_slice.new.self c.write_content.new.block c.in-Some.grant k (omega arith) (subst GrantInside c.in-Some.is c.requires.1) c.copy_from_slice.ensures.after (omega arith) c.write_content.ensures
     ∙ ap (grant_of k) (sym c.in-Some.is)

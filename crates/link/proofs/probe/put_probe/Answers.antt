@@ -7,5 +7,5 @@ use Rattle.link.proofs.probe.put_probe.Goals as goal
 
 pub returns : goal.returns
 returns c =
-    block_written (λ k b. probe_of k (probe_in b)) unasked 4 3 c.args.k c.args.probes.now (omega arith) c.write-probe.new.block _ (omega arith) (omega arith)
-    (ap (probe_of c.args.k) c.write-probe.ensures)
+    block_written (λ k b. probe_of k (probe_in b)) unasked 4 3 c.args.k c.args.probes.now (omega arith) c.write_probe.new.block _ (omega arith) (omega arith)
+    (ap (probe_of c.args.k) c.write_probe.ensures)
