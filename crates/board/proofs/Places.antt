@@ -1,11 +1,11 @@
 -- The places of a row in its words: one more, and what a write leaves of them.
-use Rattle.std.proofs.Common.{◌≡◌, ℕ, zero, suc, ◌+◌, ◌*◌, ◌<◌, ◌≤◌, min, List, [], ◌∷◌, ◌++◌, map, length, get_or, take, drop, set, sym, refl, ap, ◌∙◌, ap₂, inl, inr, arith}
+use Rattle.std.proofs.Common.{◌≡◌, ℕ, zero, suc, ◌+◌, ◌*◌, ◌<◌, ◌≤◌, min, List, [], ◌∷◌, ◌++◌, map, length, get_or, take, drop, set, sym, refl, ap, ◌∙◌, ap₂, inr, arith}
 use borrow.Rule.Slice.PartMut.{put_mid}
 use Rattle.std.specs.List.{range_with_len}
 use Rattle.std.proofs.lemmas.List.FromFn.{fill_by_all, get_or-map-range_with_len, length-map-range_with_len, map-range_with_len_more}
 use Rattle.std.proofs.lemmas.List.{drop-take, get_or-set_other, get_or-set_same, length-set, take_at, take_more, take-take}
 use Rattle.std.proofs.lemmas.Slice.{drop-put_mid, take-put_mid_below}
-use Rattle.words.specs.Parts.{block, lines, part, put}
+use Rattle.words.specs.Parts.{block, lines, put}
 use Rattle.words.proofs.Lines.{line_written}
 use Rattle.words.proofs.Parts.{part_here, part_other}
 use Rattle.board.specs.Layout.{beyond, place, row_in, row_of}

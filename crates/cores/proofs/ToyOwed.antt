@@ -2,7 +2,7 @@
 use Rattle.std.proofs.Common.{◌≡◌, ℕ, ◌-◌, ◌<◌, ◌≤◌, Bool, true, false, eqb, List, length, sym, refl, ap, ◌∙◌, subst, arith}
 use mathlib.Core.Bool.{false≢true}
 use Rattle.cores.specs.Machines.{said_by, Core, Manual, core}
-use Rattle.cores.specs.Board.{Board, handed, kept, board_after}
+use Rattle.cores.specs.Board.{Board, handed, board_after}
 use Rattle.cores.specs.Promise.{once, Promises}
 use Rattle.cores.specs.Owed.{board_of, Kept, Faithful, Bounded, Drains, ByTurns, Owed}
 use Rattle.cores.specs.Toy.{toy_isa, Phase, idle, waits, holds, dirty, State, core_of, mine, line, received, gives, may, acts_at, acts, toy_cycle, toy_chip}

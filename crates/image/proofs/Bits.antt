@@ -1,5 +1,5 @@
 -- Bits past a number's own.
-use Rattle.std.proofs.Common.{◌≡◌, ℕ, ◌+◌, ◌/◌, ◌^◌, ◌<◌, ◌≤◌, Bool, false, refl, arith, pow_mono}
+use Rattle.std.proofs.Common.{◌≡◌, ℕ, ◌/◌, ◌^◌, ◌<◌, ◌≤◌, false, arith, pow_mono}
 use native.Mathlib.Nat.{div-eq_of_lt}
 use Rattle.image.specs.Choices.{up, beyond}
 use Rattle.image.specs.ChoiceLaws.{OthersAreDown}

@@ -1,13 +1,12 @@
 -- The front of a memory: what is taken, and which fault refuses.
-use Rattle.std.proofs.Common.{◌≡◌, ℕ, zero, suc, ◌+◌, ◌-◌, ◌*◌, ◌/◌, ◌%◌, ◌<◌, ◌≤◌, Bool, true, false, cond, not, ◌&&◌, ◌||◌, eqb, ltb, leb, ◌⊎◌, List, [], ◌∷◌, ◌++◌, length, get_or, drop, Ok, Err, Result, sym, refl, ap, ◌∙◌, inl, inr, mod-eq_of_lt, arith}
+use Rattle.std.proofs.Common.{◌≡◌, ℕ, suc, ◌+◌, ◌*◌, ◌/◌, ◌%◌, ◌<◌, ◌≤◌, Bool, true, false, cond, not, ◌&&◌, eqb, ltb, leb, List, [], ◌∷◌, length, get_or, drop, Ok, Err, Result, sym, refl, ap, ◌∙◌, inl, inr, mod-eq_of_lt, arith}
 use native.Mathlib.Nat.{div-div-eq-div-mul}
 use Rattle.std.proofs.lemmas.Nat.{div-add-mod', div_below}
 use Rattle.std.proofs.lemmas.List.{drop_more}
-use Rattle.std.proofs.lemmas.Bool.{ltb-false, le-ltb, lt-leb, eqb-true, eq-eqb, or_cases, or_parts, or_from, or_right, and_parts, and_from, not-false, not_from_true, cond-false, true≢false, not-true, both_ways, leb-true, ltb-true, cond_both}
-use Rattle.std.proofs.lemmas.Bool.Decides.{nat_tests}
+use Rattle.std.proofs.lemmas.Bool.{ltb-false, le-ltb, eqb-true, eq-eqb, or_cases, or_parts, or_from, or_right, and_parts, and_from, not-false, not_from_true, cond-false, true≢false, not-true, both_ways, leb-true, ltb-true, cond_both}
 use Rattle.image.specs.Memory.{word, word_at, may_be, letters, outside, size, header_rule, header_of, Fits, word_bytes, words_of, bytes_of, image}
-use Rattle.image.specs.MemoryLaws.{Byte, Word, AllImagesAreTaken, OnlyImagesAreTaken, Faulty, Before, Judged, LowestFaultRefuses, WrittenIsRead}
-use Rattle.image.specs.Refusals.{number, place}
+use Rattle.image.specs.MemoryLaws.{Word, AllImagesAreTaken, OnlyImagesAreTaken, Faulty, Before, Judged, LowestFaultRefuses, WrittenIsRead}
+use Rattle.image.specs.Refusals.{place}
 use Rattle.image.specs.declared.memory.Header.{Header}
 use Rattle.image.specs.declared.refusal.Refusal.{Refusal}
 use Rattle.image.specs.declared.refusal.Refusal.TheVariants.{MemoryEnds, MemoryGoesOn, NoMagic, Cores, Lines, Choices, Lent}

@@ -1,5 +1,5 @@
 -- Choices that are taken are cycles written out; all such are taken; and where a refusal stands.
-use Rattle.std.proofs.Common.{◌≡◌, ℕ, zero, suc, ◌+◌, ◌-◌, ◌*◌, ◌/◌, ◌^◌, ◌<◌, ◌≤◌, Bool, true, false, cond, not, eqb, ltb, leb, List, [], ◌∷◌, ◌++◌, length, take, Ok, Err, Result, sym, refl, ap, ◌∙◌, subst, div-lt_iff_lt-mul, zero-add, arith, lit≤, pow_pos, MatchResult}
+use Rattle.std.proofs.Common.{◌≡◌, ℕ, zero, suc, ◌+◌, ◌-◌, ◌*◌, ◌/◌, ◌^◌, ◌<◌, ◌≤◌, Bool, true, false, cond, ltb, leb, List, [], ◌∷◌, ◌++◌, length, take, Ok, Err, Result, sym, refl, ap, ◌∙◌, subst, div-lt_iff_lt-mul, zero-add, arith, lit≤, pow_pos, MatchResult}
 use Rattle.std.proofs.lemmas.List.{length-take-le, length-append, take_at, drop_at}
 use Rattle.std.proofs.lemmas.Bool.{leb-false, ltb-false, le-ltb, lt-leb, eqb-true, not-false}
 use Rattle.image.specs.Refusals.{number, place, then}

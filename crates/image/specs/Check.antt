@@ -1,6 +1,6 @@
 -- What is tested before any cycle: the memory, then the choices, then the lent slices.
 -- Assumes nothing: these are definitions.
-use Rattle.std.specs.Prelude.{◌≡◌, ℕ, ◌+◌, ◌*◌, ◌≤◌, cond, List, [], Ok, Err, Result, nat_lt}
+use Rattle.std.specs.Prelude.{◌≡◌, ℕ, ◌+◌, ◌*◌, ◌≤◌, cond, List, Ok, Err, Result, nat_lt}
 use Rattle.image.specs.Refusals.{then}
 use Rattle.image.specs.Memory.{header_of, Fits}
 use Rattle.image.specs.Choices.{choices_of, cycles_of}

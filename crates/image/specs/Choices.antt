@@ -1,11 +1,10 @@
 -- Choices as bytes: for each cycle one byte whose bit k says that the interrupt line of core k is up, one byte that says how many waiting lines are given, and their places, strictly rising.
 -- Assumes nothing: these are definitions.
-use Rattle.std.specs.Prelude.{◌≡◌, ℕ, zero, suc, ◌+◌, ◌-◌, ◌/◌, ◌%◌, ◌^◌, ◌<◌, ◌≤◌, Bool, true, false, cond, not, List, [], ◌∷◌, length, take, drop, Ok, Err, Result, ◌==◌, nat_le, nat_lt, slice_index}
+use Rattle.std.specs.Prelude.{◌≡◌, ℕ, zero, suc, ◌+◌, ◌-◌, ◌/◌, ◌%◌, ◌^◌, ◌<◌, ◌≤◌, Bool, cond, not, List, [], ◌∷◌, length, take, drop, Ok, Err, Result, ◌==◌, nat_le, nat_lt, slice_index}
 use Rattle.image.specs.Refusals.{then}
 use Rattle.image.specs.declared.choices.Expected.{Expected}
 use Rattle.image.specs.declared.choices.Expected.TheVariants.{Raised, Count, Place}
 use Rattle.image.specs.declared.choices.Reader.{Reader}
-use Rattle.image.specs.declared.refusal.ChoiceFault.{ChoiceFault}
 use Rattle.image.specs.declared.refusal.ChoiceFault.TheVariants.{CutShort, NoSuchCore, NotRising, TooManyCycles}
 use Rattle.image.specs.declared.refusal.Refusal.{Refusal}
 use Rattle.image.specs.declared.refusal.Refusal.TheVariants.{Choices}

@@ -1,6 +1,6 @@
 -- A memory as bytes: "CHIP", the number of cores (one byte), the number of lines (four bytes), and eight words of four bytes for each line. Low bytes come first.
 -- Assumes nothing: these are definitions.
-use Rattle.std.specs.Prelude.{◌≡◌, ℕ, ◌+◌, ◌*◌, ◌/◌, ◌%◌, ◌≤◌, Bool, true, false, cond, not, ◌&&◌, ◌||◌, List, [], ◌∷◌, ◌++◌, length, drop, Ok, Err, codes, Result, ◌==◌, nat_le, nat_lt, slice_index}
+use Rattle.std.specs.Prelude.{◌≡◌, ℕ, ◌+◌, ◌*◌, ◌/◌, ◌%◌, ◌≤◌, Bool, cond, not, ◌&&◌, ◌||◌, List, [], ◌∷◌, ◌++◌, length, drop, Ok, Err, codes, Result, ◌==◌, nat_le, nat_lt, slice_index}
 use Rattle.image.specs.declared.memory.Header.{Header}
 use Rattle.image.specs.declared.refusal.LentSlice.TheVariants.{Board}
 use Rattle.image.specs.declared.refusal.Refusal.{Refusal}

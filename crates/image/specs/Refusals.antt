@@ -1,7 +1,6 @@
 -- The number and the place of each refusal, and steps that may be refused.
 -- Assumes nothing: these are definitions.
 use Rattle.std.specs.Prelude.{ℕ, Ok, Err, Result}
-use Rattle.image.specs.declared.refusal.ChoiceFault.{ChoiceFault}
 use Rattle.image.specs.declared.refusal.LentSlice.{LentSlice}
 use Rattle.image.specs.declared.refusal.LentSlice.TheVariants.{Board, Chip, Said}
 use Rattle.image.specs.declared.refusal.Refusal.{Refusal}

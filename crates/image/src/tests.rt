@@ -32,7 +32,7 @@ fn a_memory_is_stored(rt: HostRuntime) {
     let mut bytes = [7; 42];
     let memory = [0x04030201, 0, 0, 0, 0, 0, 0, 0];
     assert_eq!(rt; store(2, &memory, &mut bytes).ok(), Some(41));
-    assert_eq!(rt; &bytes[0..41], &one_line());
+    assert_eq!(rt; &bytes[0..41], one_line().as_slice());
     assert_eq!(rt; bytes[41], 7);
 }
 
@@ -57,14 +57,14 @@ fn choices_are_read(rt: HostRuntime) -> Result<(), Fail> {
     let bytes = [1, 2, 0, 3, 2, 0];
     assert_eq!(rt; count_cycles(&bytes, 2), Ok(2));
     let first = cycle_at(&bytes, 0).ok_or("no first")?;
-    assert_eq!(rt; first.given, &[0, 3]);
+    assert_eq!(rt; first.given, [0, 3].as_slice());
     assert_eq!(rt; (first.raised, first.end), (1, 4));
     assert_eq!(rt;
         (is_up(first.raised, 0), is_up(first.raised, 1)),
         (true, false)
     );
     let second = cycle_at(&bytes, first.end).ok_or("no second")?;
-    assert_eq!(rt; second.given, &[]);
+    assert_eq!(rt; second.given, [0u8; 0].as_slice());
     assert_eq!(rt; (second.raised, second.end), (2, 6));
     assert_eq!(rt; cycle_at(&bytes, second.end).is_none(), true);
     Ok(())

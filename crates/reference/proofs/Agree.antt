@@ -1,15 +1,14 @@
 -- A lent memory and the lines that it is read as agree; so do the machines and the cores that they are read as.
-use Rattle.std.proofs.Common.{◌≡◌, ℕ, zero, suc, ◌+◌, ◌*◌, ◌/◌, ◌%◌, ◌<◌, ◌≤◌, min, Bool, true, false, cond, ◌⊎◌, List, [], ◌∷◌, ◌++◌, map, length, get_or, take, set, sym, refl, ap, ◌∙◌, subst, ap₂, inl, inr, arith, length-set}
+use Rattle.std.proofs.Common.{◌≡◌, ℕ, zero, suc, ◌*◌, ◌/◌, ◌%◌, ◌<◌, ◌≤◌, min, Bool, true, false, cond, List, [], ◌∷◌, ◌++◌, map, length, get_or, take, set, sym, refl, ap, ◌∙◌, arith, length-set}
 use Rattle.std.proofs.lemmas.Bool.{cond-true, cond-false}
 use Rattle.std.proofs.lemmas.List.{append-nil}
 use Rattle.words.proofs.Lines.{line_word, line_set, line_count}
 use Rattle.words.specs.Parts.{lines}
-use Rattle.cores.specs.Machines.{word, with_word, Core, Manual, core, after, event, events, begins, fresh_cores, step, interrupt, pick}
+use Rattle.cores.specs.Machines.{word, with_word, Core, Manual, core, after, event, begins, fresh_cores, step, interrupt, pick}
 use Rattle.cores.specs.Rv32.{rv32}
-use Rattle.rv32.specs.Execute.{did, enters, one, start}
+use Rattle.rv32.specs.Execute.{did, enters, one}
 use Rattle.rv32.specs.declared.core_state.Effect.{Effect}
 use Rattle.rv32.specs.declared.core_state.Effect.TheVariants.{Goes, Stores, Says, Stops}
-use Rattle.rv32.specs.declared.core_state.Core as registers
 use Rattle.reference.specs.Read.{OnAt, Performed, core_of, there, machine_after, manual_of, new_machine, outcome, outcome_of, spoken, words_after}
 use Rattle.reference.specs.declared.machines.Outcome.{Outcome}
 use Rattle.reference.specs.declared.machines.Outcome.TheVariants.{Done, Off, NotLet}

@@ -1,6 +1,6 @@
 -- The machines and the lent memory, read as the machines that take turns; and what an event comes to.
 -- Assumes nothing: these are definitions.
-use Rattle.std.specs.Prelude.{◌≡◌, ℕ, ◌/◌, ◌<◌, min, Bool, true, false, cond, List, [], ◌∷◌, ◌++◌, map, length, take, Some, None, Option, slice_index_or, slice_set}
+use Rattle.std.specs.Prelude.{◌≡◌, ℕ, ◌/◌, ◌<◌, min, true, false, cond, List, [], ◌∷◌, ◌++◌, map, length, take, slice_index_or, slice_set}
 use Rattle.words.specs.Parts.{lines}
 use Rattle.rv32.specs.Did.{Did, goes, stores, says, stops}
 use Rattle.rv32.specs.Execute.{one, lets, start}

@@ -1,6 +1,6 @@
 -- Events as letters of a text.
 -- Assumes nothing: these are definitions.
-use Rattle.std.specs.Prelude.{◌≡◌, ℕ, ◌+◌, ◌-◌, ◌<◌, cond, ◌&&◌, Some, None, Option, nat_le, nat_lt}
+use Rattle.std.specs.Prelude.{ℕ, ◌+◌, ◌-◌, cond, ◌&&◌, Some, None, Option, nat_le, nat_lt}
 use Rattle.cores.specs.declared.port.Event.{Event}
 use Rattle.cores.specs.declared.port.Event.TheVariants.{Step, Interrupt}
 

@@ -1,19 +1,17 @@
 -- An instruction makes words of words, and x0 stays 0.
-use Rattle.std.proofs.Common.{◌≡◌, ℕ, zero, suc, ◌+◌, ◌-◌, ◌*◌, ◌/◌, ◌%◌, ◌^◌, ◌<◌, ◌≤◌, Bool, true, false, cond, not, ◌&&◌, eqb, ltb, List, [], ◌∷◌, length, get_or, set, replicate, ℤ, pos, negsuc, sym, refl, ap, ◌∙◌, subst, div-le_self, arith, length-set, get_or-set_other, w32, to_z, of_z}
+use Rattle.std.proofs.Common.{◌≡◌, ℕ, zero, suc, ◌*◌, ◌/◌, ◌%◌, ◌^◌, ◌<◌, Bool, true, false, cond, ◌&&◌, eqb, ltb, List, [], ◌∷◌, get_or, set, replicate, ℤ, pos, negsuc, sym, refl, ◌∙◌, subst, div-le_self, arith, length-set, get_or-set_other, w32, to_z, of_z}
 use lib.Bits.{or_lt, xor_lt, and_lt}
 use lib.Signed.{shr_z}
 use Rattle.std.proofs.lemmas.Nat.{mod_below, pow_pos, shr_le}
 use Rattle.std.proofs.lemmas.Int.{of_z-to_z}
 use Rattle.std.proofs.lemmas.Bool.{eqb-false}
 use Rattle.words.proofs.Fields.{extended, field_below, replace_fits}
-use Rattle.words.specs.Word.{extend, byte_at, field, half_at}
-use Rattle.rv32.specs.Arithmetic.{add, sub, signed_below, bit}
+use Rattle.words.specs.Word.{byte_at, field, half_at}
+use Rattle.rv32.specs.Arithmetic.{add, signed_below, bit}
 use Rattle.rv32.specs.Decode.{Table, amo_words, amos, branches, decode, fences, funct3, funct5, funct7, immediate_i, jalrs, left_shifts, loads as load-table, op_imms, opcode, opcodes, ops, other_ops, plain_ops, right_shifts, rs2, select, stores, systems}
-use Rattle.rv32.specs.Execute.{at, combined, enters, epc_address, execute, let_address, load_size, loaded, loads, next, operate, puts, reaches, register, returns, say_address, start, store_size, stored, swaps, taken, tells, with_lets, with_register}
+use Rattle.rv32.specs.Execute.{at, combined, epc_address, execute, let_address, load_size, loaded, loads, next, operate, puts, reaches, register, returns, say_address, store_size, stored, swaps, tells, with_lets, with_register}
 use Rattle.rv32.specs.Laws.{WellFormed, WellFormedEffect, KeepsWords, InterruptKeepsWords, StartsWithWords}
 use Rattle.rv32.specs.declared.core_state.Core.{Core}
-use Rattle.rv32.specs.declared.core_state.Effect.{Effect}
-use Rattle.rv32.specs.declared.core_state.Effect.TheVariants.{Goes, Stores, Says, Stops}
 use Rattle.rv32.specs.declared.instruction.Instruction.{Instruction}
 use Rattle.rv32.specs.declared.instruction.Instruction.TheVariants.{Lui, Auipc, Jal, Jalr, Branch, Load, Store, OpImm, Op, Amo, Fence, Ecall, Ebreak, Mret, Illegal}
 use Rattle.rv32.specs.declared.instruction.LoadKind.{LoadKind}

@@ -12,7 +12,6 @@ use Rattle.rv32.specs.declared.instruction.StoreKind.{StoreKind}
 use Rattle.rv32.specs.declared.instruction.StoreKind.TheVariants.{Sb, Sh, Sw}
 use Rattle.rv32.specs.declared.instruction.Operation.{Operation}
 use Rattle.rv32.specs.declared.instruction.Operation.TheVariants.{Add, Sub, Sll, Slt, Sltu, Xor, Srl, Sra, Or, And}
-use Rattle.rv32.specs.declared.instruction.AmoKind.{AmoKind}
 use Rattle.rv32.specs.declared.instruction.AmoKind.TheVariants.{AmoAdd, AmoSwap}
 
 -- the fields of an instruction word

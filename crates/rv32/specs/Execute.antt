@@ -1,6 +1,6 @@
 -- What each instruction needs of memory, and what it does; what a new core is, and what taking an interrupt does to one.
 -- Assumes nothing: these are definitions.
-use Rattle.std.specs.Prelude.{ℕ, ◌+◌, ◌*◌, ◌/◌, ◌%◌, ◌^◌, Bool, true, false, cond, not, ◌&&◌, replicate, Some, None, Option, ◌==◌, bit_and, bit_or, bit_xor, nat_lt, slice_index, slice_set}
+use Rattle.std.specs.Prelude.{ℕ, ◌*◌, ◌/◌, ◌%◌, Bool, true, false, cond, not, ◌&&◌, replicate, Some, None, Option, ◌==◌, bit_and, bit_or, bit_xor, nat_lt, slice_index, slice_set}
 use Rattle.words.specs.Word.{extend, byte_at, half_at, with_byte, with_half}
 use Rattle.rv32.specs.Arithmetic.{add, sub, sll, srl, sra, signed_below, bit}
 use Rattle.rv32.specs.Decode.{decode}

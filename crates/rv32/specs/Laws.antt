@@ -2,7 +2,6 @@
 -- Assumes nothing.
 use Rattle.std.specs.Prelude.{◌≡◌, ℕ, ◌*◌, ◌/◌, ◌^◌, ◌<◌, false, length, Some, None, Option, slice_index, slice_index_or}
 use Rattle.rv32.specs.Decode.{decode}
-use Rattle.rv32.specs.Did.{Did, goes, stores, says, stops}
 use Rattle.rv32.specs.Execute.{address, does, enters, execute, lets, need, one, start}
 use Rattle.rv32.specs.declared.core_state.Core.{Core}
 use Rattle.rv32.specs.declared.core_state.Effect.{Effect}

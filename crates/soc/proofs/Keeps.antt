@@ -1,5 +1,5 @@
 -- Each small step keeps the chip in agreement with the board and the manual's machines.
-use Rattle.std.proofs.Common.{◌≡◌, ℕ, ◌+◌, ◌/◌, ◌<◌, ◌≤◌, Bool, true, false, ◌&&◌, eqb, ltb, List, [], ◌∷◌, ◌++◌, length, get_or, Some, None, Option, sym, refl, ap, ◌∙◌, subst, arith, length-set}
+use Rattle.std.proofs.Common.{◌≡◌, ℕ, ◌/◌, ◌<◌, ◌≤◌, Bool, true, false, ◌&&◌, eqb, ltb, List, [], ◌∷◌, ◌++◌, length, get_or, Some, None, Option, sym, refl, ap, ◌∙◌, subst, arith, length-set}
 use mathlib.Core.Bool.{false≢true}
 use Rattle.rv32.specs.Did.{Did, goes, stores, says, stops, cpu_after, on_after}
 use Rattle.cores.specs.Machines.{interrupt, word, with_word, Core, Manual, core, after, events, begins}

@@ -1,11 +1,11 @@
 -- The words that are written, read back as parts of the chip's state.
-use Rattle.std.proofs.Common.{◌≡◌, ℕ, ◌+◌, ◌*◌, ◌%◌, ◌<◌, ◌≤◌, min, Bool, true, false, ◌&&◌, eqb, ltb, List, [], ◌∷◌, length, get_or, take, set, is_some, Some, None, Option, unwrap_or, sym, refl, ap, ◌∙◌, inl, inr, arith}
+use Rattle.std.proofs.Common.{◌≡◌, ℕ, ◌*◌, ◌%◌, ◌<◌, ◌≤◌, min, Bool, true, false, ◌&&◌, ltb, List, [], ◌∷◌, length, get_or, take, set, is_some, Some, None, Option, unwrap_or, sym, refl, ap, ◌∙◌, inl, inr, arith}
 use mathlib.Core.Path.{fun_ext}
 use borrow.Rule.Slice.PartMut.{put_mid}
 use mir.Val.{bool_byte}
 use Rattle.std.proofs.lemmas.List.{take_at, get_or-set_same, get_or-set_other}
 use Rattle.std.proofs.lemmas.Bool.{cases_eq, lt-ltb, eq-eqb, ne_eqb}
-use Rattle.words.specs.Parts.{part, block}
+use Rattle.words.specs.Parts.{part}
 use Rattle.words.proofs.Parts.{part_here, part_other, part_part, put_length, apart}
 use Rattle.rv32.specs.Execute.{start}
 use Rattle.rv32.specs.declared.core_state.Core.{Core}
@@ -13,8 +13,6 @@ use Rattle.cores.specs.Machines.{pick}
 use Rattle.cores.specs.Put.{put}
 use Rattle.cores.specs.declared.port.Line.{Line}
 use Rattle.soc.specs.Layout.{flag, core_of, cpus_of, ons_of, buffer_of, asked_of, control_of, state_of, state_from, shared}
-use Rattle.soc.specs.Rv.{rv}
-use Rattle.soc.specs.Soc.{State}
 use Rattle.soc.specs.declared.control.Control.{Control}
 
 pub picked : {A : Type 0} (b : Bool) (x y : A) → b ≡ true → pick b x y ≡ x

@@ -1,6 +1,6 @@
 -- The chip without caches: cores take turns at the memory, and the core whose turn it is has two line buffers, for its instruction and for its data.
 -- Assumes nothing: these are definitions.
-use Rattle.std.specs.Prelude.{ℕ, ◌+◌, ◌/◌, ◌%◌, Bool, true, false, ◌&&◌, List, [], ◌∷◌, Some, None, Option, nat_lt, slice_set}
+use Rattle.std.specs.Prelude.{ℕ, ◌+◌, ◌/◌, ◌%◌, Bool, ◌&&◌, List, [], ◌∷◌, Some, None, Option, nat_lt, slice_set}
 use Rattle.rv32.specs.Did.{Did, goes, stores, says, stops, cpu_after, on_after}
 use Rattle.cores.specs.Machines.{pick, step, interrupt}
 use Rattle.cores.specs.Board.{Out, Chip}

@@ -1,22 +1,19 @@
 -- Where the chip agrees with the board, the board refuses nothing in the next cycle.
-use Rattle.std.proofs.Common.{◌≡◌, ℕ, ◌+◌, ◌*◌, ◌<◌, ◌≤◌, Bool, true, false, cond, ◌&&◌, ltb, List, [], ◌∷◌, ◌++◌, map, length, Some, None, Option, sym, refl, ap, ◌∙◌, subst, arith, length-append}
-use Rattle.words.specs.Parts.{lines}
+use Rattle.std.proofs.Common.{◌≡◌, ℕ, ◌+◌, ◌*◌, ◌<◌, ◌≤◌, Bool, true, false, cond, ◌&&◌, ltb, List, [], ◌∷◌, ◌++◌, length, Some, None, Option, sym, refl, ap, ◌∙◌, subst, arith, length-append}
 use Rattle.words.proofs.Lines.{line_count}
-use Rattle.cores.specs.Machines.{Event}
-use Rattle.cores.specs.Board.{Choice, Out, Board, board_after, handed, kept, with_lines}
-use Rattle.cores.specs.Owed.{cycled, next_board}
-use Rattle.cores.specs.Ports.{line_of, somes, out_of}
+use Rattle.cores.specs.Board.{Choice, Out, handed, kept}
+use Rattle.cores.specs.Owed.{cycled}
+use Rattle.cores.specs.Ports.{line_of, somes}
 use Rattle.cores.specs.declared.port.Line.{Line}
 use Rattle.cores.specs.declared.port.Out as port
 use Rattle.cores.proofs.Basics.{with_lines_length}
-use Rattle.board.specs.Faults.{unfit, unsound, astray, outside, full, short}
+use Rattle.board.specs.Faults.{unfit, unsound, full}
 use Rattle.board.specs.Layout.{board_of, memory_of, waiting_of}
 use Rattle.board.specs.Rows.{inside, asks_of, writes_of}
-use Rattle.board.specs.declared.fault.Fault.{Fault}
-use Rattle.board.specs.declared.fault.Fault.TheVariants.{Short, Full, Outside}
+use Rattle.board.specs.declared.fault.Fault.TheVariants.{Short}
 use Rattle.soc.specs.Layout.{state_of}
 use Rattle.soc.specs.Rv.{rv}
-use Rattle.soc.specs.Soc.{State, chip, cycle}
+use Rattle.soc.specs.Soc.{State, chip}
 use Rattle.soc.proofs.Lines.{row, Below}
 use Rattle.soc.proofs.Keeps.{Man, Agrees, cycle_keeps}
 use Rattle.soc.proofs.Rv.{rv_laws}

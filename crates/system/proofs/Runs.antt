@@ -1,7 +1,7 @@
 -- A run by choices: what holds after some cycles, and one more.
-use Rattle.std.proofs.Common.{◌≡◌, ℕ, ◌+◌, ◌*◌, ◌≤◌, Bool, List, [], ◌∷◌, ◌++◌, map, length, drop, sym, refl, ap, ◌∙◌, subst, append_assoc, arith, length-append}
+use Rattle.std.proofs.Common.{◌≡◌, ℕ, ◌+◌, ◌*◌, ◌≤◌, Bool, List, [], ◌∷◌, ◌++◌, map, length, drop, sym, refl, ap, ◌∙◌, subst, append_assoc, length-append}
 use Rattle.words.proofs.Lines.{line_count}
-use Rattle.cores.specs.Machines.{Event, Manual, manual_after}
+use Rattle.cores.specs.Machines.{Event, manual_after}
 use Rattle.cores.specs.Board.{Board, Choice, board_after, cycles, powered}
 use Rattle.cores.specs.Owed.{Kept}
 use Rattle.cores.specs.Ports.{event_of, said_of, somes}
@@ -12,7 +12,7 @@ use Rattle.cores.proofs.Basics.{append_nil}
 use Rattle.cores.proofs.Runs.{powered_append, powered_inv}
 use Rattle.image.specs.Choices.{Cycle, cycles_of, Read}
 use Rattle.image.specs.declared.memory.Header.{Header}
-use Rattle.board.specs.Layout.{board_of, memory_of, waiting_of}
+use Rattle.board.specs.Layout.{board_of, memory_of}
 use Rattle.soc.specs.Layout.{state_of}
 use Rattle.soc.specs.Rv.{rv}
 use Rattle.soc.specs.Soc.{State, chip, fresh}

@@ -10,10 +10,9 @@ use Rattle.cores.specs.Rv32.{rv32}
 use Rattle.cores.proofs.Basics.{append_nil}
 use Rattle.cores.proofs.Machines.{events_append}
 use Rattle.image.specs.declared.memory.Header.{Header}
-use Rattle.board.specs.Cycle.{FollowsSteady}
 use Rattle.board.specs.Faults.{unfit}
 use Rattle.board.specs.Layout.{memory_of, row_of, timed_of, waiting_of}
-use Rattle.board.specs.Rows.{asks_of, line_in, pair_in, writes_of}
+use Rattle.board.specs.Rows.{asks_of, line_in, pair_in}
 use Rattle.soc.specs.Layout.{state_of}
 use Rattle.soc.specs.Rv.{rv}
 use Rattle.soc.specs.Soc.{State, chip, cycle, fresh}
@@ -21,7 +20,7 @@ use Rattle.soc.proofs.Lines.{row}
 use Rattle.soc.proofs.Keeps.{Man, Agrees, After, starts, cycle_keeps}
 use Rattle.soc.proofs.Rv.{rv_laws}
 use Rattle.system.specs.Run.{PoweredOn}
-use Rattle.system.specs.Steady.{after_steady, none_up, NextSteady, FittingSteady, HeardSteady, RanSteady}
+use Rattle.system.specs.Steady.{after_steady, none_up, NextSteady, FittingSteady, RanSteady}
 use Rattle.system.proofs.Fits.{fitting}
 use Rattle.system.proofs.Runs.{moved}
 

@@ -1,5 +1,5 @@
 -- A chip writes no line outside memory.
-use Rattle.std.proofs.Common.{◌≡◌, ℕ, zero, suc, ◌/◌, ◌<◌, Bool, true, ◌&&◌, ltb, List, [], ◌∷◌, map, Some, None, Option, sym, refl, ap, ◌∙◌, subst, arith}
+use Rattle.std.proofs.Common.{◌≡◌, ℕ, zero, suc, ◌/◌, ◌<◌, Bool, true, ◌&&◌, ltb, List, [], ◌∷◌, map, Some, None, Option, refl, ap, ◌∙◌, subst, arith}
 use Rattle.rv32.specs.Did.{Did, goes, stores, says, stops}
 use Rattle.cores.specs.Board.{Out}
 use Rattle.cores.specs.Loop.{each}

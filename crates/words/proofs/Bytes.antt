@@ -1,10 +1,10 @@
 -- A word's bytes and halves: what the definitions of words come to.
-use Rattle.std.proofs.Common.{◌≡◌, ℕ, ◌+◌, ◌-◌, ◌*◌, ◌/◌, ◌%◌, ◌^◌, ◌<◌, ◌≤◌, ◌⊎◌, sym, refl, ap, ◌∙◌, subst, inl, inr, mul_assoc, add-mul, add_comm, arith}
+use Rattle.std.proofs.Common.{◌≡◌, ℕ, ◌+◌, ◌-◌, ◌*◌, ◌/◌, ◌%◌, ◌^◌, ◌<◌, ◌≤◌, ◌⊎◌, sym, ap, ◌∙◌, subst, inl, inr, mul_assoc, add-mul, add_comm, arith}
 use Rattle.std.proofs.lemmas.Nat.{pow_pos, pow-add, mod-pow-add, mod_below, shr-shr, shr_high, mod_low, mod-mul-add, field_of}
 use Rattle.std.proofs.lemmas.Bool.{cases_lt}
 use Rattle.words.proofs.Fields.{split_at}
 use Rattle.words.specs.Laws.{FieldReplaced, FourBytes, TwoHalves}
-use Rattle.words.specs.Word.{byte_at, field, half_at, replace}
+use Rattle.words.specs.Word.{byte_at, field, replace}
 
 -- what holds of each number below four, or below two, holds of every one
 below_two : (P : ℕ → Type 0) → P 0 → P 1 → (n : ℕ) → n < 2 → P n

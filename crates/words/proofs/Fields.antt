@@ -1,5 +1,5 @@
 -- Lemmas on fields of a word: one can be taken out of it, and another put there.
-use Rattle.std.proofs.Common.{◌≡◌, ℕ, ◌+◌, ◌-◌, ◌*◌, ◌/◌, ◌%◌, ◌^◌, ◌<◌, ◌≤◌, cond, ltb, sym, refl, ap, ◌∙◌, subst, ⊎_elim, mod-eq_of_lt, div-le_self, arith, pow_mono}
+use Rattle.std.proofs.Common.{◌≡◌, ℕ, ◌+◌, ◌-◌, ◌*◌, ◌/◌, ◌%◌, ◌^◌, ◌<◌, ◌≤◌, sym, ap, ◌∙◌, subst, ⊎_elim, mod-eq_of_lt, div-le_self, arith, pow_mono}
 use native.Mathlib.Nat.{div-eq_of_lt, mul-sub, add-mul-mod_self_left}
 use lib.Arith.{digits_lt}
 use Rattle.std.proofs.lemmas.Nat.{pow_pos, pow-add, shr_split, mod-pow-add, mod_below, mul-add-lt, shl_below, shr_below}

@@ -1,12 +1,12 @@
 -- Memory's lines and the words that they are decoded from are read and written alike.
-use Rattle.std.proofs.Common.{◌≡◌, ℕ, zero, suc, ◌+◌, ◌*◌, ◌<◌, ◌≤◌, List, [], ◌∷◌, map, length, get_or, take, drop, set, sym, refl, ap, ◌∙◌, ap₂, arith, get_or-drop, get_or-take, drop-set-lt}
+use Rattle.std.proofs.Common.{◌≡◌, ℕ, zero, suc, ◌+◌, ◌*◌, List, [], ◌∷◌, map, get_or, take, drop, set, sym, refl, ap, ◌∙◌, ap₂, arith, get_or-drop, get_or-take, drop-set-lt}
 use lib.Seq.{take-set-lt, take-set-le, drop-set-add}
 use Rattle.std.proofs.lemmas.List.FromFn.{get_or-map-range_with_len}
 use Rattle.std.proofs.lemmas.List.{drop-drop}
 use Rattle.std.specs.List.{range_with_len}
 use Rattle.words.proofs.Parts.{table_set}
 use Rattle.words.specs.Laws.{LineBlock, LineCount, LineSet, LineWord, LineWritten}
-use Rattle.words.specs.Parts.{block, lines, part, put}
+use Rattle.words.specs.Parts.{block, lines, part}
 
 pub line_count : LineCount
 unfolding lines

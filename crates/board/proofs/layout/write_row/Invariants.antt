@@ -1,5 +1,5 @@
 -- The places written so far.
-use Rattle.std.proofs.Common.{◌≡◌, map, length, take}
+use Rattle.std.proofs.Common.{◌≡◌, map, take}
 use Rattle.std.specs.List.{range_with_len}
 use Rattle.board.specs.Layout.{place}
 use Rattle.board.proofs.layout.write_row.Given as goal

@@ -1,10 +1,9 @@
 -- A core that fetches nothing stops; one that has the word that it needs does what the specification says.
-use Rattle.std.proofs.Common.{◌≡◌, ℕ, List, get_or, sym, ap, ◌∙◌, subst}
+use Rattle.std.proofs.Common.{◌≡◌, ℕ, List, sym, ap, ◌∙◌, subst}
 use Rattle.rv32.proofs.Laws.{done, not_done}
 use Rattle.rv32.specs.Decode.{decode}
 use Rattle.rv32.specs.Execute.{did, need as needed}
-use Rattle.rv32.specs.Laws.{Supplied, Within}
-use Rattle.rv32.specs.declared.core_state.Need.{Need}
+use Rattle.rv32.specs.Laws.{Supplied}
 use Rattle.cores.specs.Machines.{word}
 use Rattle.words.specs.Parts.{lines}
 use Rattle.reference.proofs.Agree.{supplied_lines, word_lines}

@@ -1,5 +1,5 @@
 -- The steps of a cycle, one after another.
-use Rattle.std.proofs.Common.{◌≡◌, false, map, get_or, ap, ◌∙◌}
+use Rattle.std.proofs.Common.{false, map, get_or, ap, ◌∙◌}
 use Rattle.cores.specs.Loop.{joined}
 use Rattle.cores.specs.Ports.{event_of, line_of, somes}
 use Rattle.soc.specs.Layout.{state_of}

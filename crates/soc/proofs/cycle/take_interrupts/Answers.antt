@@ -1,5 +1,5 @@
 -- Each turn is one core more.
-use Rattle.std.proofs.Common.{◌≡◌, ℕ, false, List, get_or, refl, ap, ◌∙◌, subst, arith, length-set}
+use Rattle.std.proofs.Common.{◌≡◌, ℕ, false, get_or, refl, ap, ◌∙◌, arith, length-set}
 use Rattle.cores.specs.Loop.{each}
 use Rattle.cores.specs.Ports.{event_of}
 use Rattle.soc.specs.Layout.{state_of}

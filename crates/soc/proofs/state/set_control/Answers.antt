@@ -1,7 +1,7 @@
 -- One region is written, and the others stay.
 use Rattle.std.proofs.Common.{◌∙◌, arith}
 use Rattle.words.specs.Parts.{part}
-use Rattle.soc.specs.Layout.{shared, state_from, state_of}
+use Rattle.soc.specs.Layout.{state_from, state_of}
 use Rattle.soc.proofs.Regions.{wrote_control}
 use Rattle.soc.proofs.state.set_control.Goals as goal
 

@@ -1,5 +1,5 @@
 -- Nothing is asked for, or one more waits.
-use Rattle.std.proofs.Common.{sym, ap, ◌∙◌, arith}
+use Rattle.std.proofs.Common.{sym, arith}
 use Rattle.std.proofs.lemmas.List.{append-nil}
 use Rattle.cores.specs.Board.{asked}
 use Rattle.board.specs.Rows.{line_in, pair_in}

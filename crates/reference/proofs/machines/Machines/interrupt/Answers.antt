@@ -1,5 +1,5 @@
 -- A core that is off does nothing; one that goes takes the interrupt, whether it is let or not.
-use Rattle.std.proofs.Common.{◌≡◌, sym, refl, ap, ◌∙◌}
+use Rattle.std.proofs.Common.{sym, refl}
 use Rattle.reference.proofs.Agree.{off_interrupt, performed_interrupt}
 use Rattle.reference.proofs.machines.Machines.interrupt.Goals as goal
 

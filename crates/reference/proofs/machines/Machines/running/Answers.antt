@@ -1,5 +1,5 @@
 -- A core past the count or past the row is not there; one that is there has what its machine has.
-use Rattle.std.proofs.Common.{◌≡◌, ap, ◌∙◌, inl, inr, arith}
+use Rattle.std.proofs.Common.{ap, ◌∙◌, inl, inr, arith}
 use Rattle.cores.specs.Machines.{Core}
 use Rattle.cores.specs.Rv32.{rv32}
 use Rattle.reference.proofs.Agree.{here, not_here}
