@@ -50,7 +50,7 @@ fn on_chip(
     for word in recorder.said.iter() {
         said.push(word.word)?;
     }
-    said.as_mut_slice().sort();
+    said.as_mut_slice().sort(rt.alloc())?;
     board.truncate(lines.saturating_mul(8));
     Ok(Some((
         After {
@@ -86,7 +86,7 @@ fn on_machines(rt: &HostRuntime, image: &[u8], events: &[Event]) -> anyhow::Resu
             said.push(word)?;
         }
     }
-    said.as_mut_slice().sort();
+    said.as_mut_slice().sort(rt.alloc())?;
     Ok(Some(After { said, memory }))
 }
 

@@ -240,7 +240,7 @@ fn all_faults_are_told(rt: HostRuntime) -> Result<(), Fail> {
             fault: Fault::Outside,
         },
     ];
-    assert_eq!(rt; told.as_slice(), &faults);
+    assert_eq!(rt; told.as_slice(), faults.as_slice());
     assert!(rt; matches!(lay_out(rt.alloc(), &[], 0, 0), Err(LayoutError::NoSuchSize)));
     Ok(())
 }
@@ -255,7 +255,7 @@ fn an_instruction_without_a_word_is_told(rt: HostRuntime) -> Result<(), Fail> {
         Err(LayoutError::Faults(faults)) => {
             assert_eq!(rt;
                 faults.as_slice(),
-                &[
+                [
                     Located {
                         index: 0,
                         fault: Fault::NoWord(Misfit::Register),
@@ -265,6 +265,7 @@ fn an_instruction_without_a_word_is_told(rt: HostRuntime) -> Result<(), Fail> {
                         fault: Fault::NoWord(Misfit::Immediate),
                     },
                 ]
+                .as_slice()
             );
             Ok(())
         },

@@ -67,6 +67,6 @@ fn a_source_without_faults(rt: HostRuntime) -> Result<(), Fail> {
     assert_eq!(rt; source.lines, Some(7));
     assert_eq!(rt; source.symbols, 3);
     assert_eq!(rt; source.statements.len(), 5);
-    assert_eq!(rt; source.rows.as_slice(), &[3, 3, 3, 4, 4]);
+    assert_eq!(rt; source.rows.as_slice(), [3, 3, 3, 4, 4].as_slice());
     Ok(())
 }

@@ -7,5 +7,5 @@ use Rattle.directory.proofs.entry.put_entry.Goals as goal
 
 pub returns : goal.returns
 returns c =
-    block_written (λ p b. entry_of (entry_in b)) nobody 256 2 c.args.p c.args.entries.now (omega arith) c.write-entry.new.block _ (omega arith) (omega arith)
-    (ap entry_of c.write-entry.ensures)
+    block_written (λ p b. entry_of (entry_in b)) nobody 256 2 c.args.p c.args.entries.now (omega arith) c.write_entry.new.block _ (omega arith) (omega arith)
+    (ap entry_of c.write_entry.ensures)

@@ -7,5 +7,5 @@ use Rattle.directory.proofs.request.put_request.Goals as goal
 
 pub returns : goal.returns
 returns c =
-    block_written (λ k b. request_of k (request_in b)) idle 4 5 c.args.k c.args.requests.now (omega arith) c.write-request.new.block _ (omega arith) (omega arith)
-    (ap (request_of c.args.k) c.write-request.ensures)
+    block_written (λ k b. request_of k (request_in b)) idle 4 5 c.args.k c.args.requests.now (omega arith) c.write_request.new.block _ (omega arith) (omega arith)
+    (ap (request_of c.args.k) c.write_request.ensures)
