@@ -56,7 +56,7 @@ unfolding stepped
 looked_all k r es i h p = sym (at_drop_all (λ xs. stepped k (somes event_of xs)) es i h) ∙ p
 
 -- two rows, one after the other
-somes_append : {A B : Type 0} (of : A → B) (xs ys : List (Option A)) → somes of (xs ++ ys) ≡ somes of xs ++ somes of ys
+pub somes_append : {A B : Type 0} (of : A → B) (xs ys : List (Option A)) → somes of (xs ++ ys) ≡ somes of xs ++ somes of ys
 somes_append of [] ys = refl
 somes_append of (None ∷ xs) ys = somes_append of xs ys
 somes_append {A} {B} of (Some x ∷ xs) ys = ap {B = List B} (λ bs. of x ∷ bs) (somes_append of xs ys)

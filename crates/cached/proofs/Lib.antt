@@ -37,6 +37,7 @@ pub mod Inside
 pub mod Range
 pub mod Sequence
 pub mod Cycles
+pub mod Gathered
 pub mod Said
 pub mod Replies
 pub mod Arrivals

@@ -60,7 +60,23 @@ fn both(first: [Option<Line>; 4], second: [Option<Line>; 4]) -> [Option<Line>; 8
     ]
 }
 
-// The steps of a cycle, on the words that are used.
+// The lines of a row of eight places, in four: it has no more.
+fn in_four(row: [Option<Line>; 8]) -> [Option<Line>; 4]
+    requires { length (somes line_of row) ≤ 4 }
+    ensures { somes line_of result ≡ somes line_of row }
+{
+    let mut four = [None; 4];
+    let mut n = 0;
+    for i in 0..8 {
+        if row[i].is_some() {
+            four[n] = row[i];
+            n += 1;
+        }
+    }
+    four
+}
+
+// The steps of a cycle, on the words that are used. What the cores answer and what they write have four lines at most.
 fn steps(chip: &mut [u32], given: &[Line], up: [bool; 4], said: &mut [u32]) -> Out
     requires { (3309 ≤ length chip.old) × (length said.old ≡ 8) }
     ensures { (state_of chip.new, out_of result said.new) ≡ cycle rv (state_of chip.old) (map line_of given.now) (λ k. slice_index_or up k false) }
@@ -73,7 +89,7 @@ fn steps(chip: &mut [u32], given: &[Line], up: [bool; 4], said: &mut [u32]) -> O
     pass_turn(chip, &deeds.did);
     Out {
         asks,
-        writes: both(answered, deeds.wrote),
+        writes: in_four(both(answered, deeds.wrote)),
         did: deeds.did,
     }
 }

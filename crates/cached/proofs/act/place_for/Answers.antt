@@ -12,7 +12,7 @@ returns c =
     let k = c.args.k in
     record {
       value =
-          place_own (state_of w) k _ (own_slots w k _ (omega arith) e) c.args.line c.place_for.result c.control-shared.result c.core.result c.code-line-code.result
-          c.control-shared.ensures.value c.core.ensures c.code-line-code.ensures c.place_for.ensures.value;
+          place_own (state_of w) k _ (own_slots w k _ (omega arith) e) c.args.line c.place_for.result c.control-shared.result c.core.result c.code_line-code.result
+          c.control-shared.ensures.value c.core.ensures c.code_line-code.ensures c.place_for.ensures.value;
       within = c.place_for.ensures.within;
     }

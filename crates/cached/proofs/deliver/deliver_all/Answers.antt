@@ -9,7 +9,7 @@ loop-line-init c = refl
 
 pub loop-line-preserved : goal.loop-line-preserved
 loop-line-preserved c =
-    line_more c.args.given.now c.loop-line.line-index _ (state_of c.loop-line.chip) (state_of c.deliver-one.new.chip) (omega arith) c.deliver-one.ensures
+    line_more c.args.given.now c.loop-line.line-index _ (state_of c.loop-line.chip) (state_of c.deliver_one.new.chip) (omega arith) c.deliver_one.ensures
     ∙ c.loop-line.invariant
 
 pub returns : goal.returns

@@ -12,8 +12,8 @@ loop-k-init c = one_none (state_of c.args.chip.now) c.args.line.number c.args.li
 
 pub loop-k-preserved : goal.loop-k-preserved
 loop-k-preserved c =
-    one_more (state_of c.args.chip.now) (state_of c.loop-k.chip) (state_of c.deliver-to.new.chip) c.loop-k.k c.args.line.number c.args.line.words
-    c.loop-k.invariant c.deliver-to.ensures
+    one_more (state_of c.args.chip.now) (state_of c.loop-k.chip) (state_of c.deliver_to.new.chip) c.loop-k.k c.args.line.number c.args.line.words
+    c.loop-k.invariant c.deliver_to.ensures
 
 pub returns : goal.returns
 returns c =

@@ -11,8 +11,8 @@ loop-k-init c =
 
 pub loop-k-preserved : goal.loop-k-preserved
 loop-k-preserved c =
-    settled_more (state_of c.args.chip.now) (state_of c.loop-k.chip) (state_of c.set-due.new.chip) c.loop-k.k c.due-next-due.result
-    c.loop-k.invariant c.due-next-due.ensures c.set-due.ensures
+    settled_more (state_of c.args.chip.now) (state_of c.loop-k.chip) (state_of c.set_due.new.chip) c.loop-k.k c.due_next-due.result
+    c.loop-k.invariant c.due_next-due.ensures c.set_due.ensures
 
 pub returns : goal.returns
 returns c =

@@ -9,8 +9,8 @@ loop-k-init c = none_begun c.fill.new.self _ c.args.cores (c.fill.ensures.after 
 
 pub loop-k-preserved : goal.loop-k-preserved
 loop-k-preserved c =
-    begun_more (state_of c.loop-k.chip) (state_of c.set-core.new.chip) (state_of c.set-on.new.chip) (state_of c.set-due.new.chip) c.loop-k.k c.args.cores c.new.result
-    c.set-core.ensures c.new.ensures c.set-on.ensures c.set-due.ensures c.loop-k.invariant
+    begun_more (state_of c.loop-k.chip) (state_of c.set_core.new.chip) (state_of c.set_on.new.chip) (state_of c.set_due.new.chip) c.loop-k.k c.args.cores c.new.result
+    c.set_core.ensures c.new.ensures c.set_on.ensures c.set_due.ensures c.loop-k.invariant
 
 pub returns : goal.returns
-returns c = c.set-control.ensures ∙ begun c.loop-k.chip c.args.cores c.args.lines (omega arith) (c.loop-k.invariant.0, λ j l. c.loop-k.invariant.1 j (omega arith))
+returns c = c.set_control.ensures ∙ begun c.loop-k.chip c.args.cores c.args.lines (omega arith) (c.loop-k.invariant.0, λ j l. c.loop-k.invariant.1 j (omega arith))

@@ -6,4 +6,4 @@ use Rattle.cached.proofs.regions.content.Goals as goal
 pub returns : goal.returns
 returns c =
     let e : (1389 + 640 * c.args.k) - (749 + 640 * c.args.k) ≡ 640 = omega arith in
-    c.content-at.ensures ∙ own_slots c.args.chip.now c.args.k _ (omega arith) e c.args.slot (omega arith)
+    c.content_at.ensures ∙ own_slots c.args.chip.now c.args.k _ (omega arith) e c.args.slot (omega arith)

@@ -5,4 +5,4 @@ use Rattle.cached.proofs.regions.grant.Goals as goal
 
 pub returns : goal.returns
 unfolding part state_of
-returns c = record { value = c.grant-at.ensures.value; inside = c.grant-at.ensures.inside }
+returns c = record { value = c.grant_at.ensures.value; inside = c.grant_at.ensures.inside }

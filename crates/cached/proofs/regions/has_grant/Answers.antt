@@ -5,4 +5,4 @@ use Rattle.cached.proofs.regions.has_grant.Goals as goal
 
 pub returns : goal.returns
 unfolding part state_of
-returns c = c.has-grant.ensures
+returns c = c.has_grant.ensures

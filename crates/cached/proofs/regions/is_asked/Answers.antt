@@ -5,4 +5,4 @@ use Rattle.cached.proofs.regions.is_asked.Goals as goal
 
 pub returns : goal.returns
 unfolding part state_of
-returns c = c.is-asked.ensures
+returns c = c.is_asked.ensures

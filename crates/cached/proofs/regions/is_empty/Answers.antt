@@ -7,4 +7,4 @@ use Rattle.cached.proofs.regions.is_empty.Goals as goal
 pub returns : goal.returns
 returns c =
     let e : (1389 + 640 * c.args.k) - (749 + 640 * c.args.k) ≡ 640 = omega arith in
-    c.is-empty-at.ensures ∙ ap is_empty (own_slots c.args.chip.now c.args.k _ (omega arith) e c.args.slot (omega arith))
+    c.is_empty_at.ensures ∙ ap is_empty (own_slots c.args.chip.now c.args.k _ (omega arith) e c.args.slot (omega arith))

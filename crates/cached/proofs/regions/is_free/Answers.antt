@@ -5,4 +5,4 @@ use Rattle.cached.proofs.regions.is_free.Goals as goal
 
 pub returns : goal.returns
 unfolding part state_of
-returns c = c.is-free.ensures
+returns c = c.is_free.ensures

@@ -5,4 +5,4 @@ use Rattle.cached.proofs.regions.is_unhurried.Goals as goal
 
 pub returns : goal.returns
 unfolding part state_of
-returns c = c.is-unhurried.ensures
+returns c = c.is_unhurried.ensures

@@ -5,4 +5,4 @@ use Rattle.cached.proofs.regions.nobody_asked.Goals as goal
 
 pub returns : goal.returns
 unfolding part state_of
-returns c = c.nobody-asked.ensures
+returns c = c.nobody_asked.ensures

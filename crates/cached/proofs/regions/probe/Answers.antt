@@ -5,4 +5,4 @@ use Rattle.cached.proofs.regions.probe.Goals as goal
 
 pub returns : goal.returns
 unfolding part state_of
-returns c = record { value = c.probe-at.ensures.value; inside = c.probe-at.ensures.inside }
+returns c = record { value = c.probe_at.ensures.value; inside = c.probe_at.ensures.inside }

@@ -5,4 +5,4 @@ use Rattle.cached.proofs.regions.request.Goals as goal
 
 pub returns : goal.returns
 unfolding part state_of
-returns c = record { value = c.request-at.ensures.value; inside = c.request-at.ensures.inside }
+returns c = record { value = c.request_at.ensures.value; inside = c.request_at.ensures.inside }

@@ -12,6 +12,6 @@ returns c =
     let e : (1389 + 640 * c.args.k) - (749 + 640 * c.args.k) ≡ 640 = omega arith in
     let w = c.args.chip.now in
     let k = c.args.k in
-    wrote_own w c.put-content.new.cache k _ (omega arith) e (omega arith) (omega arith)
-    ∙ ap (λ g. with_slots (state_of w) (with_own k (state_of w).lines.slot g)) c.put-content.ensures
+    wrote_own w c.put_content.new.cache k _ (omega arith) e (omega arith) (omega arith)
+    ∙ ap (λ g. with_slots (state_of w) (with_own k (state_of w).lines.slot g)) c.put_content.ensures
     ∙ ap (with_slots (state_of w)) (put_own k (state_of w).lines.slot _ (own_slots w k _ (omega arith) e) c.args.slot (content_of c.args.content) (omega arith))

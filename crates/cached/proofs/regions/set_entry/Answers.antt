@@ -8,4 +8,4 @@ use Rattle.cached.proofs.regions.set_entry.Goals as goal
 pub returns : goal.returns
 unfolding part state_of
 returns c =
-    wrote 8 c.args.chip.now c.put-entry.new.entries (omega arith) (omega arith) (omega arith) ∙ ap (with_entries (state_of c.args.chip.now)) c.put-entry.ensures
+    wrote 8 c.args.chip.now c.put_entry.new.entries (omega arith) (omega arith) (omega arith) ∙ ap (with_entries (state_of c.args.chip.now)) c.put_entry.ensures

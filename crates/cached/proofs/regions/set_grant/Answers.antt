@@ -8,4 +8,4 @@ use Rattle.cached.proofs.regions.set_grant.Goals as goal
 pub returns : goal.returns
 unfolding part state_of
 returns c =
-    wrote 5 c.args.chip.now c.put-grant.new.grants (omega arith) (omega arith) (omega arith) ∙ ap (with_grants (state_of c.args.chip.now)) c.put-grant.ensures
+    wrote 5 c.args.chip.now c.put_grant.new.grants (omega arith) (omega arith) (omega arith) ∙ ap (with_grants (state_of c.args.chip.now)) c.put_grant.ensures

@@ -8,4 +8,4 @@ use Rattle.cached.proofs.regions.set_probe.Goals as goal
 pub returns : goal.returns
 unfolding part state_of
 returns c =
-    wrote 6 c.args.chip.now c.put-probe.new.probes (omega arith) (omega arith) (omega arith) ∙ ap (with_asked (state_of c.args.chip.now)) c.put-probe.ensures
+    wrote 6 c.args.chip.now c.put_probe.new.probes (omega arith) (omega arith) (omega arith) ∙ ap (with_asked (state_of c.args.chip.now)) c.put_probe.ensures

@@ -8,4 +8,4 @@ use Rattle.cached.proofs.regions.set_request.Goals as goal
 pub returns : goal.returns
 unfolding part state_of
 returns c =
-    wrote 7 c.args.chip.now c.put-request.new.requests (omega arith) (omega arith) (omega arith) ∙ ap (with_requests (state_of c.args.chip.now)) c.put-request.ensures
+    wrote 7 c.args.chip.now c.put_request.new.requests (omega arith) (omega arith) (omega arith) ∙ ap (with_requests (state_of c.args.chip.now)) c.put_request.ensures

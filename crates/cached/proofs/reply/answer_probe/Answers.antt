@@ -5,5 +5,5 @@ use Rattle.cached.proofs.reply.answer_probe.Goals as goal
 
 pub returns : goal.returns
 returns c =
-    answered (state_of c.args.chip.now) (state_of c.set-probe.new.chip) (state_of c.reply-to-written.new.chip) (state_of c.requeue_lead.new.chip)
-    c.args.k c.reply-to-written.result c.set-probe.ensures c.requeue_lead.ensures c.in-Some.probe (cc) c.in-Some.ensures.value c.reply-to-written.ensures
+    answered (state_of c.args.chip.now) (state_of c.set_probe.new.chip) (state_of c.reply_to-written.new.chip) (state_of c.requeue_lead.new.chip)
+    c.args.k c.reply_to-written.result c.set_probe.ensures c.requeue_lead.ensures c.in-Some.probe (cc) c.in-Some.ensures.value c.reply_to-written.ensures

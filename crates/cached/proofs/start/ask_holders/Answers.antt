@@ -12,8 +12,8 @@ loop-j-init c = asks_none (state_of c.args.chip.now) c.args.line (is_write c.arg
 
 pub loop-j-preserved : goal.loop-j-preserved
 loop-j-preserved c =
-    asks_more (state_of c.args.chip.now) (state_of c.loop-j.chip) (state_of c.set-probe.new.chip) c.args.line c.loop-j.j (is_write c.args.access) _
-    c.loop-j.invariant c.probe-for-probe.ensures.value c.set-probe.ensures
+    asks_more (state_of c.args.chip.now) (state_of c.loop-j.chip) (state_of c.set_probe.new.chip) c.args.line c.loop-j.j (is_write c.args.access) _
+    c.loop-j.invariant c.probe_for-probe.ensures.value c.set_probe.ensures
 
 pub returns : goal.returns
 returns c =

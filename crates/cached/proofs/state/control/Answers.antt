@@ -6,4 +6,4 @@ use Rattle.cached.proofs.state.control.Goals as goal
 
 pub returns : goal.returns
 unfolding part state_of
-returns c = record { value = c.read-control.ensures; within = control_within (part 144 5 c.args.chip.now) _ c.read-control.ensures }
+returns c = record { value = c.read_control.ensures; within = control_within (part 144 5 c.args.chip.now) _ c.read_control.ensures }

@@ -5,4 +5,4 @@ use Rattle.cached.proofs.state.core.Goals as goal
 
 pub returns : goal.returns
 unfolding part state_of
-returns c = c.core-at.ensures
+returns c = c.core_at.ensures

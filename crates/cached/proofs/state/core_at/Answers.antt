@@ -6,4 +6,4 @@ use Rattle.cached.specs.Layout.{core_of}
 use Rattle.cached.proofs.state.core_at.Goals as goal
 
 pub returns : goal.returns
-returns c = c.read-core.ensures ∙ block_read (λ k b. core_of b) (start 0) 4 35 c.args.k c.args.cores.now (omega arith)
+returns c = c.read_core.ensures ∙ block_read (λ k b. core_of b) (start 0) 4 35 c.args.k c.args.cores.now (omega arith)

@@ -5,4 +5,4 @@ use Rattle.cached.proofs.state.is_due.Goals as goal
 
 pub returns : goal.returns
 unfolding part state_of
-returns c = c.due-at.ensures
+returns c = c.due_at.ensures

@@ -5,4 +5,4 @@ use Rattle.cached.proofs.state.is_on.Goals as goal
 
 pub returns : goal.returns
 unfolding part state_of
-returns c = c.on-at.ensures
+returns c = c.on_at.ensures

@@ -5,4 +5,4 @@ use Rattle.cached.proofs.state.put_core.Goals as goal
 
 pub returns : goal.returns
 returns c =
-    cores_written c.args.cores.now c.write-core.new.block c.args.k _ c.args.core (omega arith) (omega arith) (omega arith) (omega arith) c.write-core.ensures
+    cores_written c.args.cores.now c.write_core.new.block c.args.k _ c.args.core (omega arith) (omega arith) (omega arith) (omega arith) c.write_core.ensures

@@ -8,4 +8,4 @@ use Rattle.cached.proofs.state.set_control.Goals as goal
 pub returns : goal.returns
 unfolding part state_of
 returns c =
-    wrote 2 c.args.chip.now c.write-control.new.block (omega arith) (omega arith) (omega arith) ∙ ap (with_shared (state_of c.args.chip.now)) c.write-control.ensures
+    wrote 2 c.args.chip.now c.write_control.new.block (omega arith) (omega arith) (omega arith) ∙ ap (with_shared (state_of c.args.chip.now)) c.write_control.ensures

@@ -8,4 +8,4 @@ use Rattle.cached.proofs.state.set_core.Goals as goal
 pub returns : goal.returns
 unfolding part state_of
 returns c =
-    wrote 0 c.args.chip.now c.put-core.new.cores (omega arith) (omega arith) (omega arith) ∙ ap (with_cpus (state_of c.args.chip.now)) c.put-core.ensures
+    wrote 0 c.args.chip.now c.put_core.new.cores (omega arith) (omega arith) (omega arith) ∙ ap (with_cpus (state_of c.args.chip.now)) c.put_core.ensures

@@ -8,4 +8,4 @@ use Rattle.cached.proofs.state.set_due.Goals as goal
 pub returns : goal.returns
 unfolding part state_of
 returns c =
-    wrote 3 c.args.chip.now c.put-due.new.dues (omega arith) (omega arith) (omega arith) ∙ ap (with_dues (state_of c.args.chip.now)) c.put-due.ensures
+    wrote 3 c.args.chip.now c.put_due.new.dues (omega arith) (omega arith) (omega arith) ∙ ap (with_dues (state_of c.args.chip.now)) c.put_due.ensures

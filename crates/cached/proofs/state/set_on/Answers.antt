@@ -8,4 +8,4 @@ use Rattle.cached.proofs.state.set_on.Goals as goal
 pub returns : goal.returns
 unfolding part state_of
 returns c =
-    wrote 1 c.args.chip.now c.put-on.new.ons (omega arith) (omega arith) (omega arith) ∙ ap (with_ons (state_of c.args.chip.now)) c.put-on.ensures
+    wrote 1 c.args.chip.now c.put_on.new.ons (omega arith) (omega arith) (omega arith) ∙ ap (with_ons (state_of c.args.chip.now)) c.put_on.ensures

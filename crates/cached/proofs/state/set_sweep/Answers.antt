@@ -8,4 +8,4 @@ use Rattle.cached.proofs.state.set_sweep.Goals as goal
 pub returns : goal.returns
 unfolding part state_of
 returns c =
-    wrote 4 c.args.chip.now c.put-sweep.new.sweeps (omega arith) (omega arith) (omega arith) ∙ ap (with_sweeps (state_of c.args.chip.now)) c.put-sweep.ensures
+    wrote 4 c.args.chip.now c.put_sweep.new.sweeps (omega arith) (omega arith) (omega arith) ∙ ap (with_sweeps (state_of c.args.chip.now)) c.put_sweep.ensures

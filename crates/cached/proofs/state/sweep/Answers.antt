@@ -7,4 +7,4 @@ use Rattle.cached.proofs.state.sweep.Goals as goal
 
 pub returns : goal.returns
 unfolding part state_of
-returns c = record { value = c.sweep-at.ensures; within = sweep_within (part 153 4 c.args.chip.now) c.args.k _ (omega arith) c.sweep-at.ensures }
+returns c = record { value = c.sweep_at.ensures; within = sweep_within (part 153 4 c.args.chip.now) c.args.k _ (omega arith) c.sweep_at.ensures }

@@ -4,4 +4,4 @@ use Rattle.cached.proofs.Written.{control_written}
 use Rattle.cached.proofs.state.write_control.Goals as goal
 
 pub returns : goal.returns
-returns c = control_written c.copy-from-slice.new.self c.args.control (omega arith) (omega arith) (omega arith) c.copy-from-slice.ensures.after
+returns c = control_written c.copy_from_slice.new.self c.args.control (omega arith) (omega arith) (omega arith) c.copy_from_slice.ensures.after

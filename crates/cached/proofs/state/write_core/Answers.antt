@@ -5,4 +5,4 @@ use Rattle.cached.proofs.state.write_core.Goals as goal
 
 pub returns : goal.returns
 returns c =
-    core_written c.args.block.now c.copy-from-slice.new.self c.copy-from-slice-2.new.self c.args.core c.copy-from-slice.ensures.after c.copy-from-slice-2.ensures.after (omega arith)
+    core_written c.args.block.now c.copy_from_slice.new.self c.copy_from_slice-2.new.self c.args.core c.copy_from_slice.ensures.after c.copy_from_slice-2.ensures.after (omega arith)

@@ -7,7 +7,7 @@ use Rattle.cached_system.proofs.recorder.note_event.Goals as goal
 
 pub returns-in-Some : goal.returns-in-Some
 returns-in-Some c = record {
-  items = map_push event_of _ _ _ _ c.push-reserved.ensures.items (sym (ap (λ (o : Option Event). somes event_of (o ∷ [])) c.in-Some.is));
+  items = map_push event_of _ _ _ _ c.push_reserved.ensures.items (sym (ap (λ (o : Option Event). somes event_of (o ∷ [])) c.in-Some.is));
   len = omega arith;
-  cap = c.push-reserved.ensures.capacity;
+  cap = c.push_reserved.ensures.capacity;
 }

@@ -10,7 +10,7 @@ loop-place-init c = (sym (append-nil _), omega arith)
 
 pub loop-place-preserved : goal.loop-place-preserved
 loop-place-preserved c = (
-  somes_next event_of c.args.row.now c.loop-place.place-index _ _ _ _ (omega arith) c.loop-place.invariant.0 c.note-event.ensures.items,
+  somes_next event_of c.args.row.now c.loop-place.place-index _ _ _ _ (omega arith) c.loop-place.invariant.0 c.note_event.ensures.items,
   omega arith,
 )
 

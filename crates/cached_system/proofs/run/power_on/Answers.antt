@@ -9,10 +9,10 @@ returns c = (
   record {
     some_core = c.requires.1.0.some_core;
     few_cores = c.requires.1.0.few_cores;
-    state = c.begin-chip.ensures;
-    nobody = c.begin-board.ensures.1;
-    proper = memory_proper c.args.header.lines c.begin-board.new.board c.requires.1.0.some_line c.requires.1.0.few_lines (omega arith) (λ i. (c.type-inv.board i).fits);
+    state = c.begin_chip.ensures;
+    nobody = c.begin_board.ensures.1;
+    proper = memory_proper c.args.header.lines c.begin_board.new.board c.requires.1.0.some_line c.requires.1.0.few_lines (omega arith) (λ i. (c.type_inv.board i).fits);
     long = omega arith;
   },
-  c.begin-board.ensures.0 ∙ ap (lines c.args.header.lines) c.fill.ensures ∙ memory_brought c.args.header c.args.memory.now _ c.requires.1.0,
+  c.begin_board.ensures.0 ∙ ap (lines c.args.header.lines) c.fill.ensures ∙ memory_brought c.args.header c.args.memory.now _ c.requires.1.0,
 )

@@ -13,8 +13,8 @@ loop-done-init g c = (
   omega arith,
 )
 
-pub cycle-steady-out-requires : goal.cycle-steady-out-requires
-cycle-steady-out-requires g c =
+pub cycle_steady-out-requires : goal.cycle_steady-out-requires
+cycle_steady-out-requires g c =
     let u = c.requires.0 in (
       omega arith,
       (
@@ -28,26 +28,26 @@ cycle-steady-out-requires g c =
 pub loop-done-preserved : goal.loop-done-preserved
 loop-done-preserved g c = (
   λ m k said0 did0 r.
-      subst (λ (j : ℕ). RanSteady c.args.header.cores c.args.header.lines m c.args.late j c.cycle-steady-out.new.chip c.cycle-steady-out.new.board said0 did0 (g.L.Listener.said c.hear.new.self) (g.L.Listener.did c.hear.new.self))
+      subst (λ (j : ℕ). RanSteady c.args.header.cores c.args.header.lines m c.args.late j c.cycle_steady-out.new.chip c.cycle_steady-out.new.board said0 did0 (g.L.Listener.said c.hear.new.self) (g.L.Listener.did c.hear.new.self))
       (add_assoc k c.loop-done.done 1)
       (ran_more c.args.header.cores c.args.header.lines c.args.late m
-      (k + c.loop-done.done) c.loop-done.chip c.loop-done.board c.cycle-steady-out.new.chip c.cycle-steady-out.new.board
+      (k + c.loop-done.done) c.loop-done.chip c.loop-done.board c.cycle_steady-out.new.chip c.cycle_steady-out.new.board
       said0 (g.L.Listener.said c.loop-done.listener) (g.L.Listener.said c.hear.new.self)
       did0 (g.L.Listener.did c.loop-done.listener) (g.L.Listener.did c.hear.new.self)
-      c.cycle-steady-out.result c.cycle-steady-out.new.said (c.loop-done.invariant.0 m k said0 did0 r) c.cycle-steady-out.ensures c.in-ok-hear.ensures.0 c.in-ok-hear.ensures.1),
+      c.cycle_steady-out.result c.cycle_steady-out.new.said (c.loop-done.invariant.0 m k said0 did0 r) c.cycle_steady-out.ensures c.in_ok-hear.ensures.0 c.in_ok-hear.ensures.1),
   omega arith,
 )
 
 -- the listener refused a cycle
-pub returns-in-err-hear : goal.returns-in-err-hear
-returns-in-err-hear g c = λ m k said0 did0 r.
-    MatchResult-from_err c.from-residual.result
-    (λ _. RanSteady c.args.header.cores c.args.header.lines m c.args.late (k + c.args.cycles) c.cycle-steady-out.new.chip c.cycle-steady-out.new.board said0 did0 (g.L.Listener.said c.hear.new.self) (g.L.Listener.did c.hear.new.self))
+pub returns-in_err-hear : goal.returns-in_err-hear
+returns-in_err-hear g c = λ m k said0 did0 r.
+    MatchResult-from_err c.from_residual.result
+    (λ _. RanSteady c.args.header.cores c.args.header.lines m c.args.late (k + c.args.cycles) c.cycle_steady-out.new.chip c.cycle_steady-out.new.board said0 did0 (g.L.Listener.said c.hear.new.self) (g.L.Listener.did c.hear.new.self))
     (λ _. CutSteady c.args.header.cores m c.args.late said0 did0 (g.L.Listener.said c.hear.new.self) (g.L.Listener.did c.hear.new.self))
-    c.from-residual.ensures.0
+    c.from_residual.ensures.0
     (λ _. cut_there c.args.header.cores c.args.header.lines c.args.late (k + c.loop-done.done) m c.loop-done.chip c.loop-done.board
     said0 (g.L.Listener.said c.loop-done.listener) (g.L.Listener.said c.hear.new.self) did0 (g.L.Listener.did c.loop-done.listener) (g.L.Listener.did c.hear.new.self)
-    (c.loop-done.invariant.0 m k said0 did0 r) c.in-err-hear.ensures.0 c.in-err-hear.ensures.1)
+    (c.loop-done.invariant.0 m k said0 did0 r) c.in_err-hear.ensures.0 c.in_err-hear.ensures.1)
 
 pub returns : goal.returns
 returns g c = λ m k said0 did0 r.

@@ -14,8 +14,8 @@ loop-done-init g c = (
   below_none _,
 )
 
-pub cycle-steady-out-requires : goal.cycle-steady-out-requires
-cycle-steady-out-requires g c = (
+pub cycle_steady-out-requires : goal.cycle_steady-out-requires
+cycle_steady-out-requires g c = (
   omega arith,
   (
     omega arith,
@@ -28,10 +28,10 @@ cycle-steady-out-requires g c = (
 pub loop-done-preserved : goal.loop-done-preserved
 loop-done-preserved g c = (
   ran_more c.args.header.cores c.args.header.lines c.args.late (memory_of c.args.header.lines c.args.board.now)
-      c.loop-done.done c.loop-done.chip c.loop-done.board c.cycle-steady-out.new.chip c.cycle-steady-out.new.board
+      c.loop-done.done c.loop-done.chip c.loop-done.board c.cycle_steady-out.new.chip c.cycle_steady-out.new.board
       (g.L.Listener.said c.args.listener.now) (g.L.Listener.said c.loop-done.listener) (g.L.Listener.said c.hear.new.self)
       (g.L.Listener.did c.args.listener.now) (g.L.Listener.did c.loop-done.listener) (g.L.Listener.did c.hear.new.self)
-      c.cycle-steady-out.result c.cycle-steady-out.new.said c.loop-done.invariant.0 c.cycle-steady-out.ensures c.in-ok-hear.ensures.0 c.in-ok-hear.ensures.1,
+      c.cycle_steady-out.result c.cycle_steady-out.new.said c.loop-done.invariant.0 c.cycle_steady-out.ensures c.in_ok-hear.ensures.0 c.in_ok-hear.ensures.1,
   omega arith,
-  below_more _ _ c.loop-done.invariant.2 (ap (λ (h : State rv). all_off h) (sym c.loop-done.invariant.0.state) ∙ sym c.all_stopped.ensures ∙ c.if-all-stopped.false),
+  below_more _ _ c.loop-done.invariant.2 (ap (λ (h : State rv). all_off h) (sym c.loop-done.invariant.0.state) ∙ sym c.all_stopped.ensures ∙ c.if-all_stopped.false),
 )

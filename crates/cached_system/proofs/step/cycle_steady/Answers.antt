@@ -2,15 +2,15 @@
 use Rattle.cached_system.proofs.Timed.{chip_steady, puts_steady}
 use Rattle.cached_system.proofs.step.cycle_steady.Goals as goal
 
-pub follow-steady-requires : goal.follow-steady-requires
-follow-steady-requires c = c.requires.1.1.fits c.cycle-with-out.result c.cycle-with-out.new.said
-    (puts_steady c.args.chip.now c.cycle-with-out.new.chip c.cycle-with-out.new.said c.cycle-with-out.result _
-    (chip_steady c.args.lines c.args.chip.now c.args.board.now c.cycle-with-out.new.chip c.cycle-with-out.new.said c.cycle-with-out.result _
-    c.cycle-with-out.ensures c.due-coming.ensures.0))
+pub follow_steady-requires : goal.follow_steady-requires
+follow_steady-requires c = c.requires.1.1.fits c.cycle_with-out.result c.cycle_with-out.new.said
+    (puts_steady c.args.chip.now c.cycle_with-out.new.chip c.cycle_with-out.new.said c.cycle_with-out.result _
+    (chip_steady c.args.lines c.args.chip.now c.args.board.now c.cycle_with-out.new.chip c.cycle_with-out.new.said c.cycle_with-out.result _
+    c.cycle_with-out.ensures c.due-coming.ensures.0))
 
 pub returns : goal.returns
 returns c = record {
-  chip_next = chip_steady c.args.lines c.args.chip.now c.args.board.now c.cycle-with-out.new.chip c.cycle-with-out.new.said c.cycle-with-out.result _
-      c.cycle-with-out.ensures c.due-coming.ensures.0;
-  board_next = c.follow-steady.ensures;
+  chip_next = chip_steady c.args.lines c.args.chip.now c.args.board.now c.cycle_with-out.new.chip c.cycle_with-out.new.said c.cycle_with-out.result _
+      c.cycle_with-out.ensures c.due-coming.ensures.0;
+  board_next = c.follow_steady.ensures;
 }
