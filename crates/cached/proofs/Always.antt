@@ -3,7 +3,6 @@ use Rattle.std.proofs.Common.{◌≡◌, ℕ, ◌+◌, ◌/◌, ◌<◌, ◌≤�
 use Rattle.cores.specs.Board.{Board, Choice, kept, board_after}
 use Rattle.cores.specs.Machines.{Manual, Core, core, steps, events}
 use Rattle.cores.specs.Owed.{following, cycled, next_board}
-use Rattle.cores.specs.Promise.{once}
 use Rattle.cores.specs.Rv32.{rv32}
 use Rattle.cores.proofs.Basics.{with_lines_length}
 use Rattle.cores.proofs.Runs.{powered_inv}

@@ -1,5 +1,5 @@
 -- The lines of a row's first places, gathered in four places one after another.
-use Rattle.std.proofs.Common.{◌≡◌, ℕ, ◌+◌, ◌<◌, ◌≤◌, Bool, true, false, List, [], ◌∷◌, ◌++◌, length, take, drop, get_or, set, Some, None, Option, sym, refl, ap, ◌∙◌, arith, length-set, length-append, take-append-drop}
+use Rattle.std.proofs.Common.{◌≡◌, ℕ, ◌+◌, ◌<◌, ◌≤◌, true, false, List, [], ◌∷◌, ◌++◌, length, take, drop, get_or, set, Some, None, Option, sym, refl, ap, ◌∙◌, arith, length-set, length-append, take-append-drop}
 use Rattle.std.proofs.lemmas.List.{take_more, take_all, get_or-set_other}
 use Rattle.std.specs.Option.{is_some}
 use Rattle.cores.specs.Ports.{line_of, somes}

@@ -5,7 +5,6 @@ use Rattle.cores.specs.Machines.{interrupts, said_by, Core, Manual}
 use Rattle.cores.specs.Owed.{Faithful, Bounded, Owed}
 use Rattle.cores.specs.Promise.{Promises}
 use Rattle.cores.specs.Rv32.{rv32}
-use Rattle.cores.proofs.Basics.{same}
 use Rattle.cores.proofs.Promises.{promises}
 use Rattle.cached.specs.Soc.{State, cycle, chip}
 use Rattle.cached.specs.Coherent.{Fair}

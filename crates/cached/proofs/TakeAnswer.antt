@@ -12,7 +12,7 @@ use Rattle.cached.specs.Kind.{Kind, Laws}
 use Rattle.cached.specs.Lines.{Lines, asks, grants, lowers, releases, sets}
 use Rattle.link.specs.Messages.{Grant, all_unasked, ask, filled, grant, is_quiet, is_unasked, over, quiet, unasked}
 use Rattle.cached.specs.Rank.{Asked, probes, sent}
-use Rattle.cache.specs.Slots.{lacks, Slot, empty, has, holds, lowered, raised, ready, words}
+use Rattle.cache.specs.Slots.{lacks, Slot, empty, has, holds, lowered, raised, words}
 use Rattle.cached.proofs.Steps.{True}
 use Rattle.cached.proofs.CycleAgrees.{open_keeps, take_one_keeps}
 use Rattle.cached.proofs.Base.{at_put, clash, ltb_self, ltb_next}

@@ -1,7 +1,6 @@
 -- Each move of lines keeps caches, messages and directory tidy.
 use Rattle.std.proofs.Common.{◌≡◌, ℕ, ◌/◌, Bool, true, false, ◌≢◌, List, refl, arith}
 use Rattle.cores.specs.Put.{put}
-use Rattle.cores.proofs.Basics.{less}
 use Rattle.cached.specs.Coherent.{Asks, Bound, Clear, Fair, Shape, Tidy, view}
 use Rattle.directory.specs.Directory.{Entry, Request, busy, fetches, held, idle, nobody, tag, tagged, wants}
 use Rattle.cached.specs.Lines.{Lines, asks, fills, grants, lowers, releases, takes, sets}

@@ -1,8 +1,7 @@
 -- What holds of the lines of the chip: one owner or several readers, the directory's books, and the words of each copy.
 -- Assumes nothing: these are definitions.
-use Rattle.std.specs.Prelude.{◌≡◌, ℕ, ◌/◌, ◌%◌, ◌<◌, Bool, true, false, ◌≢◌, List}
-use Rattle.cores.specs.Put.{put}
-use Rattle.cache.specs.Slots.{Slot, empty, holds, has, owns, dirties, raised, lowered}
+use Rattle.std.specs.Prelude.{◌≡◌, ℕ, ◌/◌, ◌%◌, ◌<◌, true, false, ◌≢◌, List}
+use Rattle.cache.specs.Slots.{Slot, empty, holds, has, owns, dirties}
 use Rattle.link.specs.Messages.{Grant, quiet, grant, over}
 use Rattle.directory.specs.Directory.{Entry, nobody, tagged, tag, held, Request, idle, wants, fetches, busy}
 use Rattle.cached.specs.Lines.{Lines}

@@ -5,7 +5,6 @@ use Rattle.words.specs.Parts.{part, block}
 use Rattle.rv32.specs.Execute.{start}
 use Rattle.rv32.specs.declared.core_state.Core.{Core}
 use Rattle.cores.specs.Machines.{pick}
-use Rattle.cores.specs.Put.{put}
 use Rattle.cache.specs.Slots.{Slot}
 use Rattle.cache.specs.Words.{caches_of}
 use Rattle.link.specs.Messages.{Grant, Probe}

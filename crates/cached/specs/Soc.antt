@@ -7,9 +7,9 @@ use Rattle.cores.specs.Board.{Out, Chip}
 use Rattle.cores.specs.Put.{put}
 use Rattle.cores.specs.Loop.{silent, Step, then, each}
 use Rattle.cached.specs.Kind.{Kind, code, operand}
-use Rattle.cache.specs.Slots.{Slot, empty, holds, has, words, raised, back, is_empty, home, find, cached, Lack, ready, lacks, seek, first, line_of, goes_first, chosen}
-use Rattle.link.specs.Messages.{Grant, quiet, is_quiet, Probe, unasked, ask, is_unasked, all_unasked}
-use Rattle.directory.specs.Directory.{Entry, nobody, Request, idle, wants, queued, probing, fetching, is_idle, keeps, free, unhurried, question}
+use Rattle.cache.specs.Slots.{empty, holds, has, words, raised, back, is_empty, home, find, cached, Lack, ready, lacks, seek, first, line_of, goes_first, chosen}
+use Rattle.link.specs.Messages.{quiet, is_quiet, Probe, unasked, ask, is_unasked, all_unasked}
+use Rattle.directory.specs.Directory.{nobody, Request, idle, wants, queued, probing, fetching, is_idle, keeps, free, unhurried, question}
 use Rattle.cached.specs.Lines.{Lines, takes, releases, lowers, grants, asks, lines_after, deliver_all}
 
 -- what only the time depends on: whatever these are, the chip does what the manual says. The probe on its way to each core; whether the next message

@@ -1,7 +1,6 @@
 -- A run on the steady board is a run by choices: in each cycle those that give the lines whose time has come.
-use Rattle.std.proofs.Common.{◌≡◌, ℕ, zero, suc, ◌+◌, Bool, List, [], ◌∷◌, ◌++◌, length, sym, refl, ap, ◌∙◌, subst, append_assoc, add-zero, add-suc, arith, length-append}
-use Rattle.cores.specs.Machines.{Event}
-use Rattle.cores.specs.Board.{Board, Chip, Choice, Out, Steady, asked, board_after, cycles, due, handed, kept, later, powered, steady, steady_cycle, steady_start, with_lines}
+use Rattle.std.proofs.Common.{◌≡◌, ℕ, zero, suc, ◌+◌, Bool, List, [], ◌∷◌, ◌++◌, length, sym, refl, ap, ◌∙◌, append_assoc, add-zero, add-suc, arith, length-append}
+use Rattle.cores.specs.Board.{Board, Chip, Choice, Out, Steady, asked, board_after, cycles, due, kept, later, powered, steady, steady_cycle, steady_start, with_lines}
 use Rattle.cores.specs.Owed.{board_of, cycled, lines, next_board}
 use Rattle.cores.proofs.Basics.{append_nil}
 use Rattle.cores.proofs.Runs.{powered_append}

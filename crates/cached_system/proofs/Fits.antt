@@ -1,15 +1,14 @@
 -- In a run the board refuses nothing in the next cycle: the lines that wait, and those that the chip asks for and writes, are memory's, and few wait.
-use Rattle.std.proofs.Common.{◌≡◌, ℕ, ◌+◌, ◌*◌, ◌<◌, ◌≤◌, Bool, true, false, cond, ◌&&◌, ltb, List, [], ◌∷◌, ◌++◌, map, length, Some, None, Option, sym, refl, ap, ◌∙◌, subst, arith}
+use Rattle.std.proofs.Common.{◌≡◌, ℕ, ◌+◌, ◌*◌, ◌<◌, ◌≤◌, Bool, true, false, cond, ◌&&◌, ltb, List, [], ◌∷◌, map, length, Some, None, Option, sym, refl, ap, ◌∙◌, subst, arith}
 use Rattle.words.proofs.Lines.{line_count}
 use Rattle.cores.specs.Machines.{manual_after}
 use Rattle.cores.specs.Board.{Choice, Out, handed, kept, powered}
 use Rattle.cores.specs.Owed.{cycled}
-use Rattle.cores.specs.Ports.{line_of, somes, out_of}
+use Rattle.cores.specs.Ports.{line_of, somes}
 use Rattle.cores.specs.Promise.{Memory}
 use Rattle.cores.specs.Rv32.{rv32}
 use Rattle.cores.specs.declared.port.Line.{Line}
 use Rattle.cores.specs.declared.port.Out as port
-use Rattle.cores.proofs.Runs.{powered_length}
 use Rattle.board.specs.Faults.{unfit, unsound, full}
 use Rattle.board.specs.Layout.{board_of, memory_of, waiting_of}
 use Rattle.board.specs.Rows.{inside, asks_of, writes_of}

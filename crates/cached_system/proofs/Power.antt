@@ -1,7 +1,7 @@
 -- Power-on: memory's lines are those that were brought, and are lines of words.
-use Rattle.std.proofs.Common.{◌≡◌, ℕ, zero, suc, ◌+◌, ◌*◌, ◌/◌, ◌<◌, ◌≤◌, ltb, List, [], ◌∷◌, ◌++◌, length, get_or, take, drop, sym, refl, ap, ◌∙◌, subst, arith, length-drop}
+use Rattle.std.proofs.Common.{◌≡◌, ℕ, zero, suc, ◌+◌, ◌*◌, ◌<◌, ◌≤◌, ltb, List, [], ◌∷◌, ◌++◌, length, get_or, drop, refl, ap, ◌∙◌, subst, arith, length-drop}
 use Rattle.std.proofs.lemmas.List.{take-append-le, drop-append-le, length-take-le, get_or_past}
-use Rattle.words.specs.Parts.{lines, part, block}
+use Rattle.words.specs.Parts.{lines, part}
 use Rattle.words.proofs.Lines.{line_count, line_word, line_block}
 use Rattle.cores.specs.Machines.{Event, said_by, manual_after}
 use Rattle.cores.specs.Board.{Choice, powered}

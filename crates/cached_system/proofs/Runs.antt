@@ -10,7 +10,7 @@ use Rattle.cores.proofs.Basics.{append_nil}
 use Rattle.cores.proofs.Runs.{powered_append}
 use Rattle.image.specs.Choices.{Cycle, cycles_of, Read}
 use Rattle.image.specs.declared.memory.Header.{Header}
-use Rattle.board.specs.Layout.{board_of, memory_of, waiting_of}
+use Rattle.board.specs.Layout.{board_of, memory_of}
 use Rattle.cached.specs.Layout.{state_of}
 use Rattle.cached.specs.Rv.{rv}
 use Rattle.cached.specs.Soc.{State, chip, fresh}

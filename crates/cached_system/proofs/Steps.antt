@@ -1,5 +1,5 @@
 -- The lines that come, one place more; and a cycle of the chip, then of the board, is a cycle of both.
-use Rattle.std.proofs.Common.{◌≡◌, ℕ, ◌+◌, ◌<◌, Bool, List, [], ◌∷◌, ◌++◌, map, length, get_or, take, set, Some, None, Option, sym, refl, ap, ◌∙◌, subst}
+use Rattle.std.proofs.Common.{◌≡◌, ℕ, ◌+◌, ◌<◌, List, [], ◌∷◌, ◌++◌, map, length, get_or, take, set, Some, None, Option, sym, refl, ap, ◌∙◌}
 use Rattle.std.proofs.lemmas.List.{take_more, take_more_set, map-append, append-nil}
 use Rattle.cores.specs.Board.{Choice, Out, board_after, handed}
 use Rattle.cores.specs.Owed.{cycled}

@@ -1,5 +1,5 @@
 -- A run on the steady board: what holds after some cycles, and one more; and where every core has stopped.
-use Rattle.std.proofs.Common.{◌≡◌, ℕ, zero, suc, ◌+◌, ◌*◌, ◌<◌, ◌≤◌, Bool, true, false, List, [], ◌∷◌, ◌++◌, map, length, get_or, None, sym, refl, ap, ◌∙◌, subst, append_assoc, add-zero, add-suc, add-one, arith}
+use Rattle.std.proofs.Common.{◌≡◌, ℕ, zero, suc, ◌+◌, ◌*◌, ◌≤◌, Bool, true, false, List, [], ◌∷◌, ◌++◌, map, length, get_or, None, sym, refl, ap, ◌∙◌, subst, append_assoc, add-zero, add-suc, add-one, arith}
 use mathlib.Core.Bool.{false≢true}
 use Rattle.words.proofs.Lines.{line_count}
 use Rattle.cores.specs.Machines.{Event, manual_after, said_by}

@@ -1,13 +1,13 @@
 -- A cycle of the chip on the board, both in lent words; and when neither refuses it.
 -- Assumes nothing: these are definitions.
-use Rattle.std.specs.Prelude.{◌≡◌, ℕ, Bool, false, List, [], ◌∷◌, ◌++◌, length, None, slice_index_or}
+use Rattle.std.specs.Prelude.{◌≡◌, ℕ, Bool, false, List, [], ◌++◌, length, None, slice_index_or}
 use Rattle.cores.specs.Machines.{Event}
-use Rattle.cores.specs.Board.{Board, Choice, Chip, board_after, handed, kept}
+use Rattle.cores.specs.Board.{Board, Choice, board_after, kept}
 use Rattle.cores.specs.Owed.{cycled, next_board}
 use Rattle.cores.specs.Ports.{event_of, out_of, said_of, somes}
 use Rattle.cores.specs.declared.port.Out.{Out}
 use Rattle.board.specs.Faults.{unfit, unsound}
-use Rattle.board.specs.Layout.{board_of, memory_of, waiting_of}
+use Rattle.board.specs.Layout.{board_of, waiting_of}
 use Rattle.cached.specs.Layout.{state_of}
 use Rattle.cached.specs.Rv.{rv}
 use Rattle.cached.specs.Soc.{State, chip}

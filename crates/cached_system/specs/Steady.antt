@@ -1,6 +1,6 @@
 -- Runs of the chip on the steady board, where each line comes so many cycles after the next and no interrupt line is up.
 -- Assumes nothing: these are definitions.
-use Rattle.std.specs.Prelude.{◌≡◌, ℕ, ◌+◌, ◌*◌, ◌<◌, ◌≤◌, Bool, true, false, ◌⊎◌, List, [], ◌∷◌, ◌++◌, length, None}
+use Rattle.std.specs.Prelude.{◌≡◌, ℕ, ◌+◌, ◌*◌, ◌<◌, ◌≤◌, Bool, true, false, ◌⊎◌, List, ◌++◌, length, None}
 use Rattle.cores.specs.Machines.{Event, manual_after, pick, said_by}
 use Rattle.cores.specs.Board.{Steady, due, later, steady, steady_start}
 use Rattle.cores.specs.Ports.{out_of}
@@ -12,7 +12,7 @@ use Rattle.board.specs.Faults.{unfit, unsound}
 use Rattle.board.specs.Layout.{memory_of, timed_of}
 use Rattle.cached.specs.Layout.{state_of}
 use Rattle.cached.specs.Rv.{rv}
-use Rattle.cached.specs.Soc.{State, chip, cycle}
+use Rattle.cached.specs.Soc.{chip, cycle}
 use Rattle.cached.specs.Stopped.{all_off}
 use Rattle.cached_system.specs.declared.run.Ended.{Ended}
 

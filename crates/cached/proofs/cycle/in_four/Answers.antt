@@ -1,8 +1,7 @@
 -- A place with a line is the next of the four; there are no more than four.
-use Rattle.std.proofs.Common.{◌≡◌, ℕ, ◌+◌, ◌<◌, true, List, get_or, None, Option, sym, refl, ◌∙◌, arith}
+use Rattle.std.proofs.Common.{◌≡◌, ◌<◌, true, get_or, None, sym, refl, ◌∙◌, arith}
 use Rattle.std.specs.Option.{is_some}
-use Rattle.cores.specs.declared.port.Line.{Line}
-use Rattle.cached.proofs.Gathered.{Gathered, gathered_all, gathered_line, gathered_none, has_room}
+use Rattle.cached.proofs.Gathered.{gathered_all, gathered_line, gathered_none, has_room}
 use Rattle.cached.proofs.Cycles.{empty_row}
 use Rattle.cached.proofs.cycle.in_four.Goals as goal
 use Rattle.cached.proofs.cycle.in_four.Goals.{then-is_some, else-is_some}

@@ -1,5 +1,5 @@
 -- The steps of a cycle, one after another; four lines at most are written, as in every cycle.
-use Rattle.std.proofs.Common.{◌≡◌, ℕ, ◌≤◌, Bool, false, List, map, length, get_or, sym, ◌∙◌, subst}
+use Rattle.std.proofs.Common.{ℕ, ◌≤◌, Bool, false, map, length, get_or, sym, ◌∙◌, subst}
 use Rattle.cores.specs.Board.{Out}
 use Rattle.cores.specs.Ports.{line_of, somes}
 use Rattle.cached.specs.Layout.{state_of}

@@ -1,5 +1,5 @@
 -- The words are those of a chip and a board at power-on, with the memory that was brought.
-use Rattle.std.proofs.Common.{◌≡◌, ℕ, List, ap, ◌∙◌, arith}
+use Rattle.std.proofs.Common.{ap, ◌∙◌, arith}
 use Rattle.words.specs.Parts.{lines}
 use Rattle.cached_system.proofs.Power.{memory_brought, memory_proper}
 use Rattle.cached_system.proofs.run.power_on.Goals as goal

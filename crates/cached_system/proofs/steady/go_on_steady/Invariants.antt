@@ -1,5 +1,4 @@
-use Rattle.std.proofs.Common.{ℕ, ◌+◌, ◌-◌, ◌≤◌, List}
-use Rattle.cores.specs.Machines.{Event}
+use Rattle.std.proofs.Common.{◌+◌, ◌-◌, ◌≤◌}
 use Rattle.cached_system.specs.Steady.{FromThere, RanSteady}
 use Rattle.cached_system.proofs.steady.go_on_steady.Given as goal
 

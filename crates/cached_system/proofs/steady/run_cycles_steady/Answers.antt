@@ -1,5 +1,5 @@
 -- Each turn of the loop is one cycle more.
-use Rattle.std.proofs.Common.{◌≡◌, sym, ap, ◌∙◌, inl, inr, arith, below_none, below_more}
+use Rattle.std.proofs.Common.{sym, ap, ◌∙◌, arith, below_none, below_more}
 use Rattle.board.specs.Layout.{memory_of}
 use Rattle.cached.specs.Rv.{rv}
 use Rattle.cached.specs.Soc.{State}
