@@ -11,6 +11,7 @@ use messages::{at_fault, wanted};
 use options::Options;
 use source::{Source, read};
 use std::fs;
+use std::process::ExitCode;
 
 const HELP: &str = "asm SOURCE IMAGE
 asm --print SOURCE..
@@ -172,17 +173,17 @@ fn run(rt: &HostRuntime, options: &Options) -> anyhow::Result<bool> {
     }
 }
 
-fn main(rt: HostRuntime) -> anyhow::Result<()> {
+fn main(rt: HostRuntime) -> anyhow::Result<ExitCode> {
     let options = match options::read(&rt)? {
         Some(options) => options,
         None => {
             println!(rt; "{HELP}")?;
-            return Ok(());
+            return Ok(ExitCode::SUCCESS);
         }
     };
     if run(&rt, &options)? {
-        Ok(())
+        Ok(ExitCode::SUCCESS)
     } else {
-        Err(anyhow!("not assembled"))
+        Ok(ExitCode::FAILURE)
     }
 }

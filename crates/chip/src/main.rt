@@ -9,6 +9,7 @@ use image::{Refusal, count_cycles, cycle_at, read_header, store};
 use options::{Options, Outside};
 use reference::script::letter_of;
 use std::fs;
+use std::process::ExitCode;
 use system::recorder::Recorder;
 use system::run::{Ended, Stopped, run as run_choices};
 use system::steady::run_steady;
@@ -186,17 +187,17 @@ fn run(rt: &HostRuntime, options: &Options) -> anyhow::Result<bool> {
     Ok(true)
 }
 
-fn main(rt: HostRuntime) -> anyhow::Result<()> {
+fn main(rt: HostRuntime) -> anyhow::Result<ExitCode> {
     let options = match options::read(&rt)? {
         Some(options) => options,
         None => {
             println!(rt; "{HELP}")?;
-            return Ok(());
+            return Ok(ExitCode::SUCCESS);
         }
     };
     if run(&rt, &options)? {
-        Ok(())
+        Ok(ExitCode::SUCCESS)
     } else {
-        Err(anyhow!("refused"))
+        Ok(ExitCode::FAILURE)
     }
 }

@@ -11,6 +11,7 @@ use reference::machines::{Machines, Outcome};
 use reference::script::event_of;
 use std::alloc::Global;
 use std::fs;
+use std::process::ExitCode;
 
 const HELP: &str = "manual MEMORY EVENTS [--memory FILE]
 manual MEMORY --turns N [--memory FILE]
@@ -263,17 +264,17 @@ fn run(rt: &HostRuntime, options: &Options) -> anyhow::Result<bool> {
     Ok(!tally.reported)
 }
 
-fn main(rt: HostRuntime) -> anyhow::Result<()> {
+fn main(rt: HostRuntime) -> anyhow::Result<ExitCode> {
     let options = match options::read(&rt)? {
         Some(options) => options,
         None => {
             println!(rt; "{HELP}")?;
-            return Ok(());
+            return Ok(ExitCode::SUCCESS);
         }
     };
     if run(&rt, &options)? {
-        Ok(())
+        Ok(ExitCode::SUCCESS)
     } else {
-        Err(anyhow!("not all was accepted"))
+        Ok(ExitCode::FAILURE)
     }
 }
