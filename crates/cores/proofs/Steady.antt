@@ -1,4 +1,4 @@
--- A steady board is a board with certain choices: it gives the lines whose time has come. So the invariant holds there too; from there to All-go-on and Taken.
+-- A steady board is a board with certain choices: it gives the lines whose time has come. So the invariant holds there too; from there to AllGoOn and Taken.
 use Rattle.std.proofs.Common.{◌≡◌, ℕ, zero, suc, ◌+◌, ◌-◌, ◌*◌, ◌<◌, ◌≤◌, Bool, true, false, eqb, ◌≢◌, ◌⊎◌, List, [], ◌∷◌, ◌++◌, length, get_or, sym, refl, ap, ◌∙◌, subst, inl, inr, arith}
 use Rattle.cores.specs.Machines.{pick, steps, interrupts, Isa, Manual, core, events, begins, manual_after}
 use Rattle.cores.specs.Board.{Choice, among, handed, kept, board_after, Chip, due, later, asked, Steady, steady_cycle, steady, steady_start}
