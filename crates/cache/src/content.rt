@@ -3,7 +3,7 @@ ghost use Rattle.std.specs.Prelude.{◌≡◌, ℕ, ◌+◌, ◌*◌, ◌<◌, �
 ghost use Rattle.words.specs.Parts.{part};
 ghost use Rattle.cores.specs.Ports.{line_of, somes};
 ghost use Rattle.cores.specs.Put.{put};
-ghost use Rattle.cache.specs.Slots.{back, has, holds, is_empty, lowered, owns, raised, words as eight-words};
+ghost use Rattle.cache.specs.Slots.{back, has, holds, is_empty, lowered, owns, raised, words as eight_words};
 ghost use Rattle.cache.specs.Words.{content_of, holding, slot_of, table_of, tag_of};
 
 use crate::slot::{Content, Slot};
@@ -64,7 +64,7 @@ impl Content {
 
     // The words of its line; an empty one has zeros.
     pub fn line_words(self) -> [u32; 8]
-        ensures { result ≡ eight-words (content_of self) }
+        ensures { result ≡ eight_words (content_of self) }
     {
         match self.slot {
             Slot::Empty => [0; 8],
@@ -167,7 +167,7 @@ pub(crate) fn content_from(lent: &[u32], a: usize) -> Content
 // The same without its words.
 pub(crate) fn slot_from(lent: &[u32], a: usize) -> Slot
     requires { a + 10 ≤ length lent.now }
-    ensures { holding result (eight-words (slot_of (part a 10 lent.now))) ≡ slot_of (part a 10 lent.now) }
+    ensures { holding result (eight_words (slot_of (part a 10 lent.now))) ≡ slot_of (part a 10 lent.now) }
 {
     tag(lent[a], lent[a + 1])
 }

@@ -32,15 +32,15 @@ pub added : (xs : List (Option Line)) (i : ℕ) (ls : List Line) (k : ℕ) (l : 
 added xs i ls k l h e m inv =
     ap (map line_of) (take_more_set ls k l m) ∙ map-append line_of (take k ls) (l ∷ []) ∙ ap (λ (r : List (ℕ × List ℕ)). r ++ line_of l ∷ []) inv ∙ sym (place_more xs i (Some l) h e)
 
-module _ (n : ℕ) (chips board : List ℕ) (c : Choice) (o : port.Out) (words chips-after : List ℕ) (ls : List (ℕ × List ℕ))
-    (e : (state_of chips-after, out_of o words) ≡ cycle rv (state_of chips) ls c.raised) (f : ls ≡ handed (memory_of n board) c.given 0 (waiting_of n board)) where
-  chip_cycled : (state_of chips-after, out_of o words) ≡ cycled (chip rv) (state_of chips) (board_of n board [] []) c
+module _ (n : ℕ) (chips board : List ℕ) (c : Choice) (o : port.Out) (words chips_after : List ℕ) (ls : List (ℕ × List ℕ))
+    (e : (state_of chips_after, out_of o words) ≡ cycle rv (state_of chips) ls c.raised) (f : ls ≡ handed (memory_of n board) c.given 0 (waiting_of n board)) where
+  chip_cycled : (state_of chips_after, out_of o words) ≡ cycled (chip rv) (state_of chips) (board_of n board [] []) c
   chip_cycled = e ∙ ap (λ (x : List (ℕ × List ℕ)). cycle rv (state_of chips) x c.raised) f
 
   pub puts_out : PutsOut n chips board c o words
   puts_out = ap (λ (r : State rv × Out). r.1) chip_cycled
 
-  pub next_both : (board-then : List ℕ) → Follows n board c.given o board-then → Next n chips board c o words chips-after board-then
-  next_both board-then g said did =
+  pub next_both : (board_then : List ℕ) → Follows n board c.given o board_then → Next n chips board c o words chips_after board_then
+  next_both board_then g said did =
       let z = g said did c words refl ∙ ap (λ (r : State rv × Out). board_after (board_of n board said did) c r.1) chip_cycled in
       λ i. ((chip_cycled i).0, z i)

@@ -38,15 +38,15 @@ none_raised = λ i k. go k i
     go (suc (suc (suc (suc k)))) = refl
 
 -- the chip's cycle with the lines that are due
-pub chip_steady : (n : ℕ) (chips board chips-then words : List ℕ) (o : port.Out) (ls : List (ℕ × List ℕ)) →
-    (state_of chips-then, out_of o words) ≡ cycle rv (state_of chips) ls (λ k. get_or (false ∷ false ∷ false ∷ false ∷ []) k false) → ls ≡ due (memory_of n board) (timed_of n board) →
-    (state_of chips-then, out_of o words) ≡ cycle rv (state_of chips) (due (memory_of n board) (timed_of n board)) none_up
-chip_steady n chips board chips-then words o ls e f =
+pub chip_steady : (n : ℕ) (chips board chips_then words : List ℕ) (o : port.Out) (ls : List (ℕ × List ℕ)) →
+    (state_of chips_then, out_of o words) ≡ cycle rv (state_of chips) ls (λ k. get_or (false ∷ false ∷ false ∷ false ∷ []) k false) → ls ≡ due (memory_of n board) (timed_of n board) →
+    (state_of chips_then, out_of o words) ≡ cycle rv (state_of chips) (due (memory_of n board) (timed_of n board)) none_up
+chip_steady n chips board chips_then words o ls e f =
     e ∙ ap (λ (x : List (ℕ × List ℕ)). cycle rv (state_of chips) x (λ k. get_or (false ∷ false ∷ false ∷ false ∷ []) k false)) f
     ∙ ap (λ (u : ℕ → Bool). cycle rv (state_of chips) (due (memory_of n board) (timed_of n board)) u) none_raised
 
-pub puts_steady : (chips chips-then words : List ℕ) (o : port.Out) (ls : List (ℕ × List ℕ)) → (state_of chips-then, out_of o words) ≡ cycle rv (state_of chips) ls none_up → out_of o words ≡ (cycle rv (state_of chips) ls none_up).1
-puts_steady chips chips-then words o ls e = ap (λ (r : State rv × Out). r.1) e
+pub puts_steady : (chips chips_then words : List ℕ) (o : port.Out) (ls : List (ℕ × List ℕ)) → (state_of chips_then, out_of o words) ≡ cycle rv (state_of chips) ls none_up → out_of o words ≡ (cycle rv (state_of chips) ls none_up).1
+puts_steady chips chips_then words o ls e = ap (λ (r : State rv × Out). r.1) e
 
 -- the lines that wait, without their time
 map_numbers : {A : Type 0} (f : A → ℕ) (g : A → ℕ × ℕ) → ((x : A) → f x ≡ (g x).0) → (rs : List A) → map f rs ≡ numbers (map g rs)
@@ -102,9 +102,9 @@ module _ (n lines late : ℕ) (m : List (List ℕ)) where
       1 ≤ n → n ≤ 4 → Memory m → 8 * lines + 1024 ≤ length board → FittingSteady lines chips board
   ran_fits_steady k chips board said0 said did0 did r = fits_steady k chips board r.state r.memory r.waiting
 
-  module _ (k : ℕ) (chips board chips-then board-then : List ℕ) (said0 said said-then : List (ℕ × ℕ)) (did0 did Did-then : List Event) (o : port.Out) (words : List ℕ)
+  module _ (k : ℕ) (chips board chips_then board_then : List ℕ) (said0 said said_then : List (ℕ × ℕ)) (did0 did did_then : List Event) (o : port.Out) (words : List ℕ)
       (r : RanSteady n lines m late k chips board said0 did0 said did)
-      (nx : NextSteady lines late chips board o words chips-then board-then) (e : said-then ≡ said ++ said_of words) (d : Did-then ≡ did ++ somes event_of o.did) where
+      (nx : NextSteady lines late chips board o words chips_then board_then) (e : said_then ≡ said ++ said_of words) (d : did_then ≡ did ++ somes event_of o.did) where
     abbrev decoded : Steady (chip rv)
     decoded = record { chip = state_of chips; memory = memory_of lines board; waiting = timed_of lines board; said = (at k).said; did = (at k).did }
 
@@ -115,7 +115,7 @@ module _ (n lines late : ℕ) (m : List (List ℕ)) where
     unfolding steady
     cycled_same = ap (steady_cycle (chip rv) none_up (λ _. late)) decoded_same
 
-    ran_suc : RanSteady n lines m late (suc k) chips-then board-then said0 did0 said-then Did-then
+    ran_suc : RanSteady n lines m late (suc k) chips_then board_then said0 did0 said_then did_then
     unfolding steady_cycle
     ran_suc = record {
       state = ap (λ (r : State rv × Out). r.0) nx.chip_next ∙ ap (λ (s : Steady (chip rv)). s.chip) cycled_same;
@@ -130,8 +130,8 @@ module _ (n lines late : ℕ) (m : List (List ℕ)) where
     }
 
     -- one cycle more
-    pub ran_more : RanSteady n lines m late (k + 1) chips-then board-then said0 did0 said-then Did-then
-    ran_more = subst (λ j. RanSteady n lines m late j chips-then board-then said0 did0 said-then Did-then) (sym (add-one k)) ran_suc
+    pub ran_more : RanSteady n lines m late (k + 1) chips_then board_then said0 did0 said_then did_then
+    ran_more = subst (λ j. RanSteady n lines m late j chips_then board_then said0 did0 said_then did_then) (sym (add-one k)) ran_suc
 
   -- the main promise
   pub same_steady : (k : ℕ) → 1 ≤ n → n ≤ 4 → Memory m → SameSteady n m late k
@@ -189,17 +189,17 @@ module _ (n lines late cycles k : ℕ) (m : List (List ℕ)) (chips board : List
   }
 
   -- or every core has stopped, and the caches are written back
-  pub all_stopped : (chips-then board-then : List ℕ) (said-then : List (ℕ × ℕ)) (Did-then : List Event) → all_off (state_of chips) ≡ true →
-      RanSteady n lines m late (k + drain) chips-then board-then said0 did0 said-then Did-then →
-      FinishedSteady n lines m late cycles (record { cycles = k; stopped = true }) chips-then board-then said0 did0 said-then Did-then
-  all_stopped chips-then board-then said-then Did-then e z =
+  pub all_stopped : (chips_then board_then : List ℕ) (said_then : List (ℕ × ℕ)) (did_then : List Event) → all_off (state_of chips) ≡ true →
+      RanSteady n lines m late (k + drain) chips_then board_then said0 did0 said_then did_then →
+      FinishedSteady n lines m late cycles (record { cycles = k; stopped = true }) chips_then board_then said0 did0 said_then did_then
+  all_stopped chips_then board_then said_then did_then e z =
       let o : all_off (after_steady n m late k).chip ≡ true = sym (ap (λ (h : State rv). all_off h) d.ran.state) ∙ e in
-      record { enough = d.enough; stopped = sym o; ran = z; same = same_steady n lines late m (k + drain) p q r; clean = λ _. clean n lines late m k p q r o board-then z.memory }
+      record { enough = d.enough; stopped = sym o; ran = z; same = same_steady n lines late m (k + drain) p q r; clean = λ _. clean n lines late m k p q r o board_then z.memory }
 
 -- a listener that refuses a cycle has heard of those before
-pub cut_there : (n lines late k : ℕ) (m : List (List ℕ)) (chips board : List ℕ) (said0 said said-then : List (ℕ × ℕ)) (did0 did Did-then : List Event) →
-    RanSteady n lines m late k chips board said0 did0 said did → said-then ≡ said → Did-then ≡ did → CutSteady n m late said0 did0 said-then Did-then
-cut_there n lines late k m chips board said0 said said-then did0 did Did-then r e f = (k, record { words = e ∙ r.heard.words; events = f ∙ r.heard.events })
+pub cut_there : (n lines late k : ℕ) (m : List (List ℕ)) (chips board : List ℕ) (said0 said said_then : List (ℕ × ℕ)) (did0 did did_then : List Event) →
+    RanSteady n lines m late k chips board said0 did0 said did → said_then ≡ said → did_then ≡ did → CutSteady n m late said0 did0 said_then did_then
+cut_there n lines late k m chips board said0 said said_then did0 did did_then r e f = (k, record { words = e ∙ r.heard.words; events = f ∙ r.heard.events })
 
 none_timed : {A : Type 0} (f : A → ℕ) (g : A → ℕ × ℕ) (rs : List A) → map f rs ≡ [] → map g rs ≡ []
 none_timed f g [] e = refl

@@ -84,10 +84,10 @@ Outcome ran refused cut (Err (Refused f)) = refused f
 Outcome ran refused cut (Err Unheard) = cut
 
 -- the same chip words, board words and words said, and nothing more heard
-pub record Untouched (chips chips-then board board-then words words-then : List ℕ) (said0 : List (ℕ × ℕ)) (did0 : List Event) (said : List (ℕ × ℕ)) (did : List Event) : Type 0 where
-  pub chip_same : chips-then ≡ chips
-  pub board_same : board-then ≡ board
-  pub words_same : words-then ≡ words
+pub record Untouched (chips chips_then board board_then words words_then : List ℕ) (said0 : List (ℕ × ℕ)) (did0 : List Event) (said : List (ℕ × ℕ)) (did : List Event) : Type 0 where
+  pub chip_same : chips_then ≡ chips
+  pub board_same : board_then ≡ board
+  pub words_same : words_then ≡ words
   pub said_same : said ≡ said0
   pub did_same : did ≡ did0
 

@@ -25,9 +25,9 @@ abbrev pub none_up : ℕ → Bool
 none_up k = false
 
 -- the words after are those of the chip and of the steady board one cycle after the words before
-pub record NextSteady (n late : ℕ) (chips board : List ℕ) (o : Out) (words chips-then board-then : List ℕ) : Type 0 where
-  pub chip_next : (state_of chips-then, out_of o words) ≡ cycle rv (state_of chips) (due (memory_of n board) (timed_of n board)) none_up
-  pub board_next : FollowsSteady n board late o board-then
+pub record NextSteady (n late : ℕ) (chips board : List ℕ) (o : Out) (words chips_then board_then : List ℕ) : Type 0 where
+  pub chip_next : (state_of chips_then, out_of o words) ≡ cycle rv (state_of chips) (due (memory_of n board) (timed_of n board)) none_up
+  pub board_next : FollowsSteady n board late o board_then
 
 -- the board refuses neither the lines that are due nor what the chip puts out
 pub record FittingSteady (n : ℕ) (chips board : List ℕ) : Type 0 where

@@ -51,14 +51,14 @@ module _ (n lines : ℕ) (m : List (List ℕ)) (said0 : List (ℕ × ℕ)) (did0
   one_more cs c = powered_append (chip rv) n m cs (c ∷ [])
 
   -- one cycle more
-  pub ran_next : (cs : List Choice) (c : Choice) (chips board chips-then board-then : List ℕ) (said said-then : List (ℕ × ℕ)) (did Did-then : List Event) (o : port.Out) (words : List ℕ) →
-      Ran n lines m cs chips board said0 did0 said did → Next lines chips board c o words chips-then board-then →
-      said-then ≡ said ++ said_of words → Did-then ≡ did ++ somes event_of o.did → Ran n lines m (cs ++ c ∷ []) chips-then board-then said0 did0 said-then Did-then
-  ran_next cs c chips board chips-then board-then said said-then did Did-then o words r nx e f =
+  pub ran_next : (cs : List Choice) (c : Choice) (chips board chips_then board_then : List ℕ) (said said_then : List (ℕ × ℕ)) (did did_then : List Event) (o : port.Out) (words : List ℕ) →
+      Ran n lines m cs chips board said0 did0 said did → Next lines chips board c o words chips_then board_then →
+      said_then ≡ said ++ said_of words → did_then ≡ did ++ somes event_of o.did → Ran n lines m (cs ++ c ∷ []) chips_then board_then said0 did0 said_then did_then
+  ran_next cs c chips board chips_then board_then said said_then did did_then o words r nx e f =
       let x = powered (chip rv) n m cs in
       let w : board_of lines board x.1.said x.1.did ≡ x.1 = λ i. record { memory = r.memory i; waiting = r.waiting i; said = x.1.said; did = x.1.did } in
       let y : next (state_of chips) (board_of lines board x.1.said x.1.did) c ≡ next x.0 x.1 c = λ i. next (r.state i) (w i) c in
-      let t : (state_of chips-then, board_of lines board-then (x.1.said ++ said_of words) (x.1.did ++ somes event_of o.did)) ≡ powered (chip rv) n m (cs ++ c ∷ []) =
+      let t : (state_of chips_then, board_of lines board_then (x.1.said ++ said_of words) (x.1.did ++ somes event_of o.did)) ≡ powered (chip rv) n m (cs ++ c ∷ []) =
       nx x.1.said x.1.did ∙ y ∙ sym (one_more cs c) in
       record {
         state = ap (λ (p : State rv × Board). p.0) t;
@@ -88,19 +88,19 @@ pub record SoFar (h : Header) (m : List (List ℕ)) (bytes : List ℕ) (at done 
   pub ran : Ran h.cores h.lines m before chips board said0 did0 said did
 
 module _ (h : Header) (m : List (List ℕ)) (bytes : List ℕ) (said0 : List (ℕ × ℕ)) (did0 : List Event) where
-  pub far_next : (at end done raised : ℕ) (ups : List Bool) (given chips board chips-then board-then : List ℕ) (said said-then : List (ℕ × ℕ)) (did Did-then : List Event) (o : port.Out) (words : List ℕ) →
+  pub far_next : (at end done raised : ℕ) (ups : List Bool) (given chips board chips_then board_then : List ℕ) (said said_then : List (ℕ × ℕ)) (did did_then : List Event) (o : port.Out) (words : List ℕ) →
       SoFar h m bytes at done chips board said0 did0 said did → Read bytes at raised given end →
-      ups ≡ lines_up raised → Next h.lines chips board (choice given ups) o words chips-then board-then →
-      said-then ≡ said ++ said_of words → Did-then ≡ did ++ somes event_of o.did → SoFar h m bytes end (done + 1) chips-then board-then said0 did0 said-then Did-then
+      ups ≡ lines_up raised → Next h.lines chips board (choice given ups) o words chips_then board_then →
+      said_then ≡ said ++ said_of words → did_then ≡ did ++ somes event_of o.did → SoFar h m bytes end (done + 1) chips_then board_then said0 did0 said_then did_then
   unfolding choices_in
-  far_next at end done raised ups given chips board chips-then board-then said said-then did Did-then o words s r u nx e f =
+  far_next at end done raised ups given chips board chips_then board_then said said_then did did_then o words s r u nx e f =
       let c = choice_of (record { raised = raised; given = given }) in
-      let z : Next h.lines chips board c o words chips-then board-then = subst (λ (v : List Bool). Next h.lines chips board (choice given v) o words chips-then board-then) u nx in
+      let z : Next h.lines chips board c o words chips_then board_then = subst (λ (v : List Bool). Next h.lines chips board (choice given v) o words chips_then board_then) u nx in
       record {
         before = s.before ++ c ∷ [];
         joined = append_assoc s.before (c ∷ []) (choices_in (drop end bytes)) ∙ ap (λ (l : List Cycle). s.before ++ map choice_of l) (sym r.cycles) ∙ s.joined;
         count = length-append s.before (c ∷ []) ∙ ap (λ k. k + 1) s.count;
-        ran = ran_next h.cores h.lines m said0 did0 s.before c chips board chips-then board-then said said-then did Did-then o words s.ran z e f;
+        ran = ran_next h.cores h.lines m said0 did0 s.before c chips board chips_then board_then said said_then did did_then o words s.ran z e f;
       }
 
   -- at the end of the bytes all is done

@@ -74,15 +74,15 @@ none_raised = λ i k. go k i
     go (suc (suc (suc (suc k)))) = refl
 
 -- the chip's cycle with the lines that are due
-pub chip_steady : (n : ℕ) (chips board chips-then words : List ℕ) (o : port.Out) (ls : List (ℕ × List ℕ)) →
-    (state_of chips-then, out_of o words) ≡ cycle rv (state_of chips) ls (λ k. get_or (false ∷ false ∷ false ∷ false ∷ []) k false) → ls ≡ due (memory_of n board) (timed_of n board) →
-    (state_of chips-then, out_of o words) ≡ cycle rv (state_of chips) (due (memory_of n board) (timed_of n board)) none_up
-chip_steady n chips board chips-then words o ls e f =
+pub chip_steady : (n : ℕ) (chips board chips_then words : List ℕ) (o : port.Out) (ls : List (ℕ × List ℕ)) →
+    (state_of chips_then, out_of o words) ≡ cycle rv (state_of chips) ls (λ k. get_or (false ∷ false ∷ false ∷ false ∷ []) k false) → ls ≡ due (memory_of n board) (timed_of n board) →
+    (state_of chips_then, out_of o words) ≡ cycle rv (state_of chips) (due (memory_of n board) (timed_of n board)) none_up
+chip_steady n chips board chips_then words o ls e f =
     e ∙ ap (λ (x : List (ℕ × List ℕ)). cycle rv (state_of chips) x (λ k. get_or (false ∷ false ∷ false ∷ false ∷ []) k false)) f
     ∙ ap (λ (u : ℕ → Bool). cycle rv (state_of chips) (due (memory_of n board) (timed_of n board)) u) none_raised
 
-pub puts_steady : (chips chips-then words : List ℕ) (o : port.Out) (ls : List (ℕ × List ℕ)) → (state_of chips-then, out_of o words) ≡ cycle rv (state_of chips) ls none_up → out_of o words ≡ (cycle rv (state_of chips) ls none_up).1
-puts_steady chips chips-then words o ls e = ap (λ (r : State rv × Out). r.1) e
+pub puts_steady : (chips chips_then words : List ℕ) (o : port.Out) (ls : List (ℕ × List ℕ)) → (state_of chips_then, out_of o words) ≡ cycle rv (state_of chips) ls none_up → out_of o words ≡ (cycle rv (state_of chips) ls none_up).1
+puts_steady chips chips_then words o ls e = ap (λ (r : State rv × Out). r.1) e
 
 single_of : (ws : List (ℕ × ℕ)) (x : Option ℕ) → firsts ws ≡ row x → Single ws
 single_of [] x e = tt
@@ -126,14 +126,14 @@ module _ (n : ℕ) (chips board : List ℕ) (s : List (ℕ × ℕ)) (μ : Man rv
   cyc = cycle rv (state_of chips) (due (memory_of n board) ws) none_up
 
   -- a cycle keeps the agreement
-  agrees_next : (late : ℕ) (o : port.Out) (words chips-then board-then : List ℕ) → NextSteady n late chips board o words chips-then board-then →
-      Agrees rv rv_laws (state_of chips-then) (memory_of n board-then) (waiting_of n board-then) (s ++ cyc.1.says) (events rv32 μ cyc.1.did)
-  agrees_next late o words chips-then board-then nx =
+  agrees_next : (late : ℕ) (o : port.Out) (words chips_then board_then : List ℕ) → NextSteady n late chips board o words chips_then board_then →
+      Agrees rv rv_laws (state_of chips_then) (memory_of n board_then) (waiting_of n board_then) (s ++ cyc.1.says) (events rv32 μ cyc.1.did)
+  agrees_next late o words chips_then board_then nx =
       let k = subst (λ (x : List (ℕ × List ℕ)). After rv rv_laws (cycle rv (state_of chips) x none_up) (memory_of n board) (kept (places ws) 0 (waiting_of n board)) s μ) handed_due
       (cycle_keeps rv rv_laws (state_of chips) (memory_of n board) (waiting_of n board) s μ (places ws) none_up g) in
       moved _ _ _ _ _ _ _ _ (ap (λ (r : State rv × Out). r.0) nx.chip_next)
       (nx.board_next.0 ∙ ap (λ (r : State rv × Out). with_lines (memory_of n board) r.1.writes) nx.chip_next)
-      (waiting_firsts n board-then ∙ ap firsts nx.board_next.1 ∙ firsts_append (later ws) (asked (λ _. late) (asks_of o))
+      (waiting_firsts n board_then ∙ ap firsts nx.board_next.1 ∙ firsts_append (later ws) (asked (λ _. late) (asks_of o))
       ∙ ap (λ (l : List ℕ). firsts (later ws) ++ l) (asked_firsts (λ _. late) (asks_of o)) ∙ ap (λ (l : List ℕ). l ++ asks_of o) (sym kept_later)
       ∙ ap (λ (r : State rv × Out). kept (places ws) 0 (waiting_of n board) ++ r.1.asks) nx.chip_next) k
 
@@ -146,8 +146,8 @@ module _ (n lines late : ℕ) (m : List (List ℕ)) (said0 : List (ℕ × ℕ)) 
     pub ran : RanSteady n lines m late k chips board said0 did0 said did
     pub agrees : Agrees rv rv_laws (state_of chips) (memory_of lines board) (waiting_of lines board) (at k).said (manual_after rv32 n m (at k).did)
 
-  module _ (k : ℕ) (chips board chips-then board-then : List ℕ) (said said-then : List (ℕ × ℕ)) (did Did-then : List Event) (o : port.Out) (words : List ℕ) (f : Far k chips board said did)
-      (nx : NextSteady lines late chips board o words chips-then board-then) (e : said-then ≡ said ++ said_of words) (d : Did-then ≡ did ++ somes event_of o.did) where
+  module _ (k : ℕ) (chips board chips_then board_then : List ℕ) (said said_then : List (ℕ × ℕ)) (did did_then : List Event) (o : port.Out) (words : List ℕ) (f : Far k chips board said did)
+      (nx : NextSteady lines late chips board o words chips_then board_then) (e : said_then ≡ said ++ said_of words) (d : did_then ≡ did ++ somes event_of o.did) where
     abbrev decoded : Steady (chip rv)
     decoded = record { chip = state_of chips; memory = memory_of lines board; waiting = timed_of lines board; said = (at k).said; did = (at k).did }
 
@@ -158,7 +158,7 @@ module _ (n lines late : ℕ) (m : List (List ℕ)) (said0 : List (ℕ × ℕ)) 
     unfolding steady
     cycled_same = ap (steady_cycle (chip rv) none_up (λ _. late)) decoded_same
 
-    ran_next : RanSteady n lines m late (suc k) chips-then board-then said0 did0 said-then Did-then
+    ran_next : RanSteady n lines m late (suc k) chips_then board_then said0 did0 said_then did_then
     unfolding steady_cycle
     ran_next = record {
       state = ap (λ (r : State rv × Out). r.0) nx.chip_next ∙ ap (λ (s : Steady (chip rv)). s.chip) cycled_same;
@@ -175,18 +175,18 @@ module _ (n lines late : ℕ) (m : List (List ℕ)) (said0 : List (ℕ × ℕ)) 
     abbrev out : Out
     out = (cycle rv (state_of chips) (due (memory_of lines board) (timed_of lines board)) none_up).1
 
-    agreed : Agrees rv rv_laws (state_of chips-then) (memory_of lines board-then) (waiting_of lines board-then) (at (suc k)).said (manual_after rv32 n m (at (suc k)).did)
+    agreed : Agrees rv rv_laws (state_of chips_then) (memory_of lines board_then) (waiting_of lines board_then) (at (suc k)).said (manual_after rv32 n m (at (suc k)).did)
     unfolding steady_cycle manual_after
     agreed =
-        subst (λ (x : List (ℕ × ℕ)). Agrees rv rv_laws (state_of chips-then) (memory_of lines board-then) (waiting_of lines board-then) x (manual_after rv32 n m (at (suc k)).did))
+        subst (λ (x : List (ℕ × ℕ)). Agrees rv rv_laws (state_of chips_then) (memory_of lines board_then) (waiting_of lines board_then) x (manual_after rv32 n m (at (suc k)).did))
         (ap (λ (s : Steady (chip rv)). s.said) cycled_same)
-        (subst (λ (μ : Man rv). Agrees rv rv_laws (state_of chips-then) (memory_of lines board-then) (waiting_of lines board-then) ((at k).said ++ out.says) μ)
+        (subst (λ (μ : Man rv). Agrees rv rv_laws (state_of chips_then) (memory_of lines board_then) (waiting_of lines board_then) ((at k).said ++ out.says) μ)
         (sym (events_append rv32 (begins rv32 n m) (at k).did out.did) ∙ ap (λ (s : Steady (chip rv)). events rv32 (begins rv32 n m) s.did) cycled_same)
-        (agrees_next lines chips board (at k).said (manual_after rv32 n m (at k).did) f.agrees late o words chips-then board-then nx))
+        (agrees_next lines chips board (at k).said (manual_after rv32 n m (at k).did) f.agrees late o words chips_then board_then nx))
 
     -- one cycle more
-    pub steady_next : Far (k + 1) chips-then board-then said-then Did-then
-    steady_next = subst (λ j. Far j chips-then board-then said-then Did-then) (sym (add-one k)) (record { ran = ran_next; agrees = agreed })
+    pub steady_next : Far (k + 1) chips_then board_then said_then did_then
+    steady_next = subst (λ j. Far j chips_then board_then said_then did_then) (sym (add-one k)) (record { ran = ran_next; agrees = agreed })
 
 none_timed : {A : Type 0} (f : A → ℕ) (g : A → ℕ × ℕ) (rs : List A) → map f rs ≡ [] → map g rs ≡ []
 none_timed f g [] e = refl

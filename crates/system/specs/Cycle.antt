@@ -27,9 +27,9 @@ next h b c = ((cycled (chip rv) h b c).0, next_board (chip rv) h b c)
 -- the words after read as the chip and the board one cycle after the words before, whatever was said and done till then; what is said and
 -- done in the cycle comes after it
 abbrev pub Next : ℕ → List ℕ → List ℕ → Choice → Out → List ℕ → List ℕ → List ℕ → Type 0
-Next n chip board c o words chip-after board_after =
+Next n chip board c o words chip_after board_after =
     (said : List (ℕ × ℕ)) (did : List Event) →
-    (state_of chip-after, board_of n board_after (said ++ said_of words) (did ++ somes event_of o.did)) ≡ next (state_of chip) (board_of n board said did) c
+    (state_of chip_after, board_of n board_after (said ++ said_of words) (did ++ somes event_of o.did)) ≡ next (state_of chip) (board_of n board said did) c
 
 -- what the chip puts out in that cycle
 abbrev pub PutsOut : ℕ → List ℕ → List ℕ → Choice → Out → List ℕ → Type 0
