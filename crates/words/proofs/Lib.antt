@@ -3,3 +3,4 @@ pub mod Bytes
 pub mod Fields
 pub mod Lines
 pub mod Parts
+pub mod Tables

@@ -10,6 +10,10 @@ part a n words = take n (drop a words)
 abbrev pub block : ℕ → List ℕ → ℕ → List ℕ
 block n words i = part (n * i) n words
 
+-- a table whose places have `size` words each: what the words of each place mean, which may depend on the place
+abbrev pub table : {X : Type 0} → ℕ → (ℕ → List ℕ → X) → List ℕ → ℕ → X
+table size said words k = said k (block size words k)
+
 -- a table that has v in place i
 abbrev pub put : {X : Type 0} → (ℕ → X) → ℕ → X → ℕ → X
 put f i v = λ j. cond (j == i) v (f j)

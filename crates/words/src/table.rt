@@ -1,0 +1,45 @@
+// Tables in lent words: values that take so many words each, one after another.
+ghost use Rattle.std.specs.Prelude.{◌≡◌, ℕ, ◌+◌, ◌*◌, ◌≤◌, List, length};
+ghost use Rattle.words.specs.Parts.{put, table};
+
+// A value that lies in so many words of a table.
+pub trait Stored {
+    // how many words it takes
+    const SIZE: usize;
+
+    ghost SIZE: { ℕ };
+
+    // What contracts know a value by, which may depend on its place in the table.
+    ghost Meaning: { Type 0 };
+
+    ghost means: { ℕ → Self → Meaning };
+
+    // what the words of a place mean
+    ghost said: { ℕ → List ℕ → Meaning };
+
+    fn read(block: &[u32]) -> Self
+        requires { length block.now ≡ SIZE }
+        ensures { (k : ℕ) → means k result ≡ said k block.now };
+
+    fn write(self, block: &mut [u32])
+        requires { length block.old ≡ SIZE }
+        ensures { (k : ℕ) → said k block.new ≡ means k self };
+}
+
+// What place k of a table has.
+pub fn at<T: Stored>(words: &[u32], k: usize) -> T
+    requires { T.SIZE * k + T.SIZE ≤ length words.now }
+    ensures { T.means k result ≡ table T.SIZE T.said words.now k }
+{
+    let from = T::SIZE * k;
+    T::read(&words[from..from + T::SIZE])
+}
+
+// Place k has this from now on, and all others have what they had.
+pub fn put_at<T: Stored>(words: &mut [u32], k: usize, value: T)
+    requires { T.SIZE * k + T.SIZE ≤ length words.old }
+    ensures { table T.SIZE T.said words.new ≡ put (table T.SIZE T.said words.old) k (T.means k value) }
+{
+    let start = T::SIZE * k;
+    value.write(&mut words[start..start + T::SIZE]);
+}
