@@ -1,10 +1,15 @@
-// A line, eight words, in a table of lines.
-ghost use Rattle.std.specs.Prelude.{◌≡◌, List, ℕ};
+// Lines, eight words each, in a table.
+ghost use Rattle.std.specs.Prelude.{◌≡◌, ℕ, List};
 ghost use Rattle.words.specs.Laws.{LineBlock, LineCount, LineSet, LineWord, LineWritten};
 
-use crate::table::Stored;
+use crate::table::Table;
 
-impl Stored for [u32; 8] {
+// The lines of a memory.
+pub struct Lines;
+
+impl Table for Lines {
+    type Value = [u32; 8];
+
     const SIZE: usize = 8;
 
     ghost SIZE = { 8 };
@@ -21,8 +26,8 @@ impl Stored for [u32; 8] {
         line
     }
 
-    fn write(self, block: &mut [u32]) {
-        block.copy_from_slice(&self);
+    fn write(block: &mut [u32], line: [u32; 8]) {
+        block.copy_from_slice(&line);
     }
 }
 
