@@ -1,12 +1,11 @@
 -- Cores of any kind that take turns at one memory, as their manual says: what each event does to them, and what they say.
 -- Assumes nothing: these are definitions.
-use Rattle.std.specs.Prelude.{ℕ, zero, suc, ◌/◌, ◌%◌, Bool, true, false, List, [], ◌∷◌, ◌++◌, length, ◌==◌, slice_index, slice_index_or, slice_set}
+use Rattle.std.specs.Prelude.{ℕ, zero, suc, ◌/◌, ◌%◌, Bool, true, false, cond, List, [], ◌∷◌, ◌++◌, length, ◌==◌, slice_index, slice_index_or, slice_set}
 use Rattle.rv32.specs.Did.{Did, goes, stores, says, stops}
 
 -- the first where the test is true, the second where it is false
 abbrev pub pick : {A : Type 0} → Bool → A → A → A
-pick true a b = a
-pick false a b = b
+pick = cond
 
 -- memory is lines of eight words; `word m a` is its word number a
 unfoldable pub word : List (List ℕ) → ℕ → ℕ
