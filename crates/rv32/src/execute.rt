@@ -1,7 +1,8 @@
 // What each instruction needs of memory, and what it does.
-ghost use Rattle.std.specs.Prelude.{◌≡◌, ◌<◌};
+ghost use Rattle.std.specs.Prelude.{◌≡◌, ◌/◌, ◌<◌, cond, Some, None};
 ghost use Rattle.rv32.specs.Arithmetic.{signed_below};
-ghost use Rattle.rv32.specs.Execute.{at, combined, enters, execute, execute_rule, fetch, fetch_rule, load_size, loaded, loads, need, need_rule, next, operate, puts};
+ghost use Rattle.rv32.specs.Did.{cpu_after, on_after, said_after};
+ghost use Rattle.rv32.specs.Execute.{at, combined, did, enters, execute, execute_rule, fetch, fetch_rule, load_size, loaded, loads, need, need_rule, next, operate, puts};
 ghost use Rattle.rv32.specs.Execute.{reaches, register, returns, start, store_size, stored, swaps, taken, tells, with_lets, with_register};
 ghost use Rattle.rv32.specs.Laws.{FetchedWithin, StoresWithin, Within};
 
@@ -27,6 +28,14 @@ fn reached(lines: u32, size: u32, address: u32) -> bool
     ensures { result ≡ reaches lines size address }
 {
     address / 32 < lines && address % size == 0
+}
+
+// The number of the word that so many bytes at an address lie in, if they lie in memory.
+fn word_of(lines: u32, size: u32, address: u32) -> Option<u32>
+    requires { 0 < size }
+    ensures { result ≡ cond (reaches lines size address) (Some (address / 4)) None }
+{
+    reached(lines, size, address).then_some(address / 4)
 }
 
 impl Operation {
@@ -361,11 +370,7 @@ impl Core {
         ensures value { result ≡ fetch_rule lines self }
         ensures within { FetchedWithin lines result }
     {
-        if reached(lines, 4, self.pc) {
-            Some(self.pc / 4)
-        } else {
-            None
-        }
+        word_of(lines, 4, self.pc)
     }
 
     fn data(self, lines: u32, instruction: Instruction) -> Need
@@ -379,12 +384,8 @@ impl Core {
                 offset,
                 ..
             } => {
-                let address = self.get(rs1).wrapping_add(offset);
-                if reached(lines, kind.bytes(), address) {
-                    Need::Read(address / 4)
-                } else {
-                    Need::Nothing
-                }
+                let number = word_of(lines, kind.bytes(), self.get(rs1).wrapping_add(offset));
+                number.map_or(Need::Nothing, Need::Read)
             }
             Instruction::Store {
                 kind,
@@ -392,20 +393,12 @@ impl Core {
                 offset,
                 ..
             } => {
-                let address = self.get(rs1).wrapping_add(offset);
-                if reached(lines, kind.bytes(), address) {
-                    Need::Write(address / 4)
-                } else {
-                    Need::Nothing
-                }
+                let number = word_of(lines, kind.bytes(), self.get(rs1).wrapping_add(offset));
+                number.map_or(Need::Nothing, Need::Write)
             }
             Instruction::Amo { rs1, .. } => {
-                let address = self.get(rs1);
-                if reached(lines, 4, address) {
-                    Need::Write(address / 4)
-                } else {
-                    Need::Nothing
-                }
+                let number = word_of(lines, 4, self.get(rs1));
+                number.map_or(Need::Nothing, Need::Write)
             }
             _ => Need::Nothing,
         }
@@ -433,5 +426,34 @@ impl Core {
         ensures within { StoresWithin lines result }
     {
         self.effect(lines, instruction, word)
+    }
+}
+
+impl Effect {
+    // The registers of a core after it; a core that stops keeps what it had.
+    pub fn core(self, before: Core) -> Core
+        ensures { result ≡ cpu_after before (did self) }
+    {
+        match self {
+            Effect::Goes { core } | Effect::Stores { core, .. } | Effect::Says { core, .. } => core,
+            Effect::Stops => before,
+        }
+    }
+
+    // Whether the core goes on.
+    pub fn goes_on(self) -> bool
+        ensures { result ≡ on_after (did self) }
+    {
+        !matches!(self, Effect::Stops)
+    }
+
+    // The word that is said, if one is.
+    pub fn said(self) -> Option<u32>
+        ensures { result ≡ said_after (did self) }
+    {
+        match self {
+            Effect::Says { word, .. } => Some(word),
+            Effect::Goes { .. } | Effect::Stores { .. } | Effect::Stops => None,
+        }
     }
 }
