@@ -12,3 +12,4 @@ pub mod ToyEvents
 pub mod ToyTurns
 pub mod ToyOwed
 pub mod Programs
+pub mod CoreWords

@@ -4,6 +4,8 @@ pub mod Board
 pub mod Ports
 pub mod Promise
 pub mod Put
+pub mod Registers
+pub mod Faults
 pub mod Loop
 pub mod Owed
 pub mod Rv32

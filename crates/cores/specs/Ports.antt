@@ -1,6 +1,7 @@
 -- How the values that cross between a chip and the board are read: events, lines, words said, and all that a cycle puts out.
 -- Assumes nothing: these are definitions.
 use Rattle.std.specs.Prelude.{ℕ, ◌+◌, ◌*◌, cond, List, [], ◌∷◌, ◌++◌, Some, None, Option, ◌==◌, slice_index}
+use Rattle.rv32.specs.Did.{Did, goes, stores, says, stops}
 use Rattle.cores.specs.Machines.{step, interrupt}
 use Rattle.cores.specs.Machines as machines
 use Rattle.cores.specs.Board as board
@@ -29,6 +30,13 @@ said_at words k = cond (slice_index words (2 * k) == 0) [] ((k, slice_index word
 
 abbrev pub said_of : List ℕ → List (ℕ × ℕ)
 said_of words = said_at words 0 ++ said_at words 1 ++ said_at words 2 ++ said_at words 3
+
+-- what core k says in doing an instruction
+abbrev pub spoken : {Cpu : Type 0} → ℕ → Did Cpu → List (ℕ × ℕ)
+spoken k (goes d) = []
+spoken k (stores y v d) = []
+spoken k (says x d) = (k, x) ∷ []
+spoken k stops = []
 
 -- all that a cycle puts out
 abbrev pub out_of : Out → List ℕ → board.Out

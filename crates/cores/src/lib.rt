@@ -8,6 +8,7 @@ ghost use Rattle.cores.specs.Runs.{ToyRuns};
 ghost use Rattle.cores.specs.Toy.{toy_chip, toy_isa};
 
 pub mod port;
+pub mod registers;
 
 // What each core of the toy chip has said is what its machine says, in the order in which the chip has done their events.
 pub fn says_the_same()

@@ -8,7 +8,7 @@ pub enum Event {
 }
 
 // A line of memory: its number, and its words.
-#[derive(Clone, Copy)]
+#[derive(Clone, Copy, Default)]
 pub struct Line {
     pub number: u32,
     pub words: [u32; 8],
@@ -21,4 +21,12 @@ pub struct Out {
     pub asks: Option<u32>,
     pub writes: [Option<Line>; 4],
     pub did: [Option<Event>; 8],
+}
+
+// Why a call of a chip is refused, and nothing is done: the lent words of the chip or for the words said are too few, or there are not 1 to 4 cores.
+#[derive(Clone, Copy, PartialEq, Eq, Debug)]
+pub enum Fault {
+    ChipShort,
+    SaidShort,
+    Cores,
 }
