@@ -7,12 +7,13 @@ use Rattle.cores.specs.Board.{Out, with_lines, among, handed, kept}
 use Rattle.cores.specs.Promise.{Memory}
 use Rattle.cores.specs.Put.{put}
 use Rattle.cores.specs.Loop.{silent, each}
+use Rattle.cores.specs.Ports.{spoken}
 use Rattle.cores.proofs.Basics.{by_test, choose, same, less, not_less, append_nil, set_put, with_lines_length}
 use Rattle.cores.proofs.Machines.{did_step, did_interrupt, after_core, after_many, fresh_many, fresh_core}
 use Rattle.cores.proofs.Loop.{After as After-of, Keeps as Keeps-of, stay_keeps as stay-keeps-of, then_keeps, each_keeps}
 use Rattle.soc.specs.Kind.{needed, Within, Kind, Laws, Leaves}
 use Rattle.soc.specs.Buffers.{line_in, lies_in}
-use Rattle.soc.specs.Soc.{following, written, spoken, State, fresh, mine, seen, code_word, data_word, code_lack, data_lack, lacks, placed, received, takes, entered, take_interrupt, finish, ask, skip, try, act_while, act, cycle}
+use Rattle.soc.specs.Soc.{following, written, State, fresh, mine, seen, code_word, data_word, code_lack, data_lack, lacks, placed, received, takes, entered, take_interrupt, finish, ask, skip, try, act_while, act, cycle}
 use Rattle.soc.proofs.Lines.{Good, row, Below, line_good, data_here, code_agree, data_agree, first_none, below_lacks, memory_store, memory_words}
 
 following_small : (n t : ℕ) → t < n → following n t < n

@@ -1,18 +1,14 @@
 -- The words that are written, read back as parts of the chip's state.
-use Rattle.std.proofs.Common.{◌≡◌, ℕ, ◌*◌, ◌%◌, ◌<◌, ◌≤◌, min, Bool, true, false, ◌&&◌, ltb, List, [], ◌∷◌, length, get_or, take, set, is_some, Some, None, Option, unwrap_or, sym, refl, ap, ◌∙◌, inl, inr, arith}
-use mathlib.Core.Path.{fun_ext}
+use Rattle.std.proofs.Common.{◌≡◌, ℕ, ◌%◌, ◌<◌, ◌≤◌, min, Bool, true, false, List, [], ◌∷◌, length, take, set, is_some, Some, None, Option, unwrap_or, sym, refl, ap, ◌∙◌, inl, inr, arith}
 use borrow.Rule.Slice.PartMut.{put_mid}
 use mir.Val.{bool_byte}
-use Rattle.std.proofs.lemmas.List.{take_at, get_or-set_same, get_or-set_other}
-use Rattle.std.proofs.lemmas.Bool.{cases_eq, lt-ltb, eq-eqb, ne_eqb}
+use Rattle.std.proofs.lemmas.List.{take_at, get_or-set_same}
 use Rattle.words.specs.Parts.{part}
-use Rattle.words.proofs.Parts.{part_here, part_other, part_part, put_length, apart}
-use Rattle.rv32.specs.Execute.{start}
-use Rattle.rv32.specs.declared.core_state.Core.{Core}
+use Rattle.words.proofs.Parts.{part_here, part_other, part_part, put_length}
 use Rattle.cores.specs.Machines.{pick}
-use Rattle.cores.specs.Put.{put}
+use Rattle.cores.specs.Registers.{flag, cpus_of, ons_of}
 use Rattle.cores.specs.declared.port.Line.{Line}
-use Rattle.soc.specs.Layout.{flag, core_of, cpus_of, ons_of, buffer_of, asked_of, control_of, state_of, state_from, shared}
+use Rattle.soc.specs.Layout.{buffer_of, asked_of, control_of, state_of, state_from, shared}
 use Rattle.soc.specs.declared.control.Control.{Control}
 
 pub picked : {A : Type 0} (b : Bool) (x y : A) → b ≡ true → pick b x y ≡ x
@@ -20,43 +16,6 @@ picked b x y e = ap (λ t. pick t x y) e
 
 pub unpicked : {A : Type 0} (b : Bool) (x y : A) → b ≡ false → pick b x y ≡ y
 unpicked b x y e = ap (λ t. pick t x y) e
-
-pub flag_byte : (b : Bool) → flag (bool_byte b) ≡ b
-flag_byte true = refl
-flag_byte false = refl
-
--- a function that has v at k, and is f elsewhere
-pub put_is : {A : Type 0} (f g : ℕ → A) (k : ℕ) (v : A) → g k ≡ v → ((j : ℕ) → (j ≡ k → ⊥) → g j ≡ f j) → g ≡ put f k v
-put_is f g k v h o =
-    fun_ext (λ j. elim (cases_eq j k) [ inl e ↦ rw e (h ∙ sym (picked _ _ _ (eq-eqb k k refl))) | inr ne ↦ o j ne ∙ sym (unpicked _ _ _ (ne_eqb j k ne)) ])
-
--- a core that was written, the three words first
-same_core : (x y : Core) → x.pc ≡ y.pc → x.registers ≡ y.registers → x.epc ≡ y.epc → x.lets ≡ y.lets → x ≡ y
-same_core x y a b c d = λ i. record { pc = a i; registers = b i; epc = c i; lets = d i }
-
-abbrev head : Core → List ℕ
-head c = c.pc ∷ c.epc ∷ bool_byte c.lets ∷ []
-
-pub core_written : (b ys zs : List ℕ) (c : Core) → ys ≡ head c → zs ≡ c.registers → length zs ≡ 32 → core_of (put_mid 3 32 (put_mid 0 3 b ys) zs) ≡ c
-unfolding part
-core_written b ys zs c e f h =
-    rw e (same_core (core_of (put_mid 3 32 (put_mid 0 3 b (head c)) zs)) c refl (take_at zs _ 32 h ∙ f) refl (flag_byte c.lets))
-
--- the table of four cores, after core k was written
-pub cores_written : (w ys : List ℕ) (k n : ℕ) (c : Core) → k < 4 → length w ≡ 140 → length ys ≡ 35 → n ≡ 35 → core_of ys ≡ c →
-    cpus_of (put_mid (35 * k) n w ys) ≡ put (cpus_of w) k c
-cores_written w ys k n c h l e f g =
-    rw f
-    (put_is (cpus_of w) _ k c
-    (picked _ _ _ (lt-ltb k 4 h) ∙ ap core_of (part_here (35 * k) 35 35 w ys e (omega arith)) ∙ g)
-    (λ j ne. ap (λ b. pick (ltb j 4) (core_of b) (start 0)) (part_other (35 * j) 35 (35 * k) 35 w ys e (omega arith) (apart 35 k j ne))))
-
--- whether they go, after core k is on or off
-pub ons_written : (w : List ℕ) (k : ℕ) (b : Bool) → k < 4 → length w ≡ 4 → ons_of (set w k (bool_byte b)) ≡ put (ons_of w) k b
-ons_written w k b h l =
-    put_is (ons_of w) _ k b
-    (ap (λ t. t && flag (get_or (set w k (bool_byte b)) k 0)) (lt-ltb k 4 h) ∙ ap flag (get_or-set_same w k (bool_byte b) 0 (omega arith)) ∙ flag_byte b)
-    (λ j ne. ap (λ x. ltb j 4 && flag x) (get_or-set_other w k j (bool_byte b) 0 ne))
 
 -- a buffer that was filled, and one that was emptied
 same_line : (x y : Line) → x.number ≡ y.number → x.words ≡ y.words → x ≡ y

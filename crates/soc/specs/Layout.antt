@@ -1,33 +1,15 @@
--- How the chip's state lies in the lent words, a word for each field; and the words for which a call is refused.
+-- How the chip's state lies in the lent words, a word for each field.
 -- Every content of the words is a state. Assumes nothing: these are definitions.
-use Rattle.std.specs.Prelude.{ℕ, ◌%◌, min, Bool, not, ◌&&◌, List, Some, None, Option, ◌==◌, nat_lt, slice_index}
-use Rattle.words.specs.Parts.{part, block}
-use Rattle.rv32.specs.Execute.{start}
+use Rattle.std.specs.Prelude.{ℕ, ◌%◌, min, Bool, List, Some, None, Option, slice_index}
+use Rattle.words.specs.Parts.{part}
 use Rattle.rv32.specs.declared.core_state.Core.{Core}
 use Rattle.cores.specs.Machines.{pick}
 use Rattle.cores.specs.Put.{put}
+use Rattle.cores.specs.Registers.{flag, cpus_of, ons_of}
 use Rattle.cores.specs.declared.port.Line.{Line}
 use Rattle.soc.specs.Rv.{rv}
 use Rattle.soc.specs.Soc.{State}
 use Rattle.soc.specs.declared.control.Control.{Control}
-use Rattle.soc.specs.declared.control.Fault.{Fault}
-use Rattle.soc.specs.declared.control.Fault.TheVariants.{ChipShort, SaidShort, Cores}
-
--- a word that says yes or no
-abbrev pub flag : ℕ → Bool
-flag x = not (x == 0)
-
--- 35 words of a core: pc, where the last interrupt came from, whether interrupts are let, and its 32 registers
-abbrev pub core_of : List ℕ → Core
-core_of b = record { pc = slice_index b 0; registers = part 3 32 b; epc = slice_index b 1; lets = flag (slice_index b 2) }
-
--- four cores; a core that is not there is a new one
-abbrev pub cpus_of : List ℕ → ℕ → Core
-cpus_of words k = pick (nat_lt k 4) (core_of (block 35 words k)) (start 0)
-
--- whether each goes: a word for each; a core that is not there is off
-abbrev pub ons_of : List ℕ → ℕ → Bool
-ons_of words k = nat_lt k 4 && flag (slice_index words k)
 
 -- ten words of a line buffer: whether it is full, the line's number, and its eight words
 abbrev pub buffer_of : List ℕ → Option Line
@@ -78,11 +60,3 @@ with_on h k b = state_from h.cpu (put h.on k b) (shared h)
 
 abbrev pub with_shared : State rv → Control → State rv
 with_shared h c = state_from h.cpu h.on c
-
--- why a new chip is refused, if it is: for so many lent words and so many cores
-abbrev pub fresh_fault : ℕ → ℕ → Option Fault
-fresh_fault words cores = pick (nat_lt words 16384) (Some ChipShort) (pick (nat_lt 0 cores && nat_lt cores 5) None (Some Cores))
-
--- why a cycle is refused, if it is: for so many lent words of the chip and for words said
-abbrev pub cycle_fault : ℕ → ℕ → Option Fault
-cycle_fault words said = pick (nat_lt words 16384) (Some ChipShort) (pick (nat_lt said 16) (Some SaidShort) None)

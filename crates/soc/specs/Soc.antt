@@ -6,6 +6,7 @@ use Rattle.cores.specs.Machines.{pick, step, interrupt}
 use Rattle.cores.specs.Board.{Out, Chip}
 use Rattle.cores.specs.Put.{put}
 use Rattle.cores.specs.Loop.{silent, Step, then, each}
+use Rattle.cores.specs.Ports.{spoken}
 use Rattle.cores.specs.declared.port.Line.{Line}
 use Rattle.soc.specs.Kind.{Kind, needs}
 use Rattle.soc.specs.Buffers.{line_in, word_in, lies_in, lacks_code, lacks_data, first}
@@ -20,13 +21,6 @@ written fetched loaded (goes d) = []
 written fetched loaded (stores y v d) = (y / 8, slice_set (line_in fetched loaded (y / 8)) (y % 8) v) ∷ []
 written fetched loaded (says x d) = []
 written fetched loaded stops = []
-
--- the word that core k has said
-abbrev pub spoken : {Cpu : Type 0} → ℕ → Did Cpu → List (ℕ × ℕ)
-spoken k (goes d) = []
-spoken k (stores y v d) = []
-spoken k (says x d) = (k, x) ∷ []
-spoken k stops = []
 
 module _ (κ : Kind) where
   -- how many cores there are, and lines of memory; whose turn it is; the registers of each core, and whether it goes; the line of the instruction

@@ -1,4 +1,4 @@
-// What the cores share, by value; what a core does in its turn; and why a call is refused.
+// What the cores share, by value; and what a core does in its turn.
 use cores::port::Line;
 
 // What the cores share.
@@ -31,12 +31,4 @@ pub enum Act {
         wrote: Option<Line>,
         said: Option<u32>,
     },
-}
-
-// Why nothing was done: the lent words are too few, or there are not 1 to 4 cores.
-#[derive(Clone, Copy, PartialEq, Eq, Debug)]
-pub enum Fault {
-    ChipShort,
-    SaidShort,
-    Cores,
 }

@@ -4,16 +4,16 @@ ghost use Rattle.rv32.specs.Execute.{did as done};
 ghost use Rattle.cores.specs.Loop.{each, joined};
 ghost use Rattle.cores.specs.Machines.{step};
 ghost use Rattle.cores.specs.Ports.{event_of, line_of, out_of, said_of, somes};
-ghost use Rattle.soc.specs.Layout.{cycle_fault, fresh_fault, state_of};
+ghost use Rattle.cores.specs.Faults.{cycle_fault, fresh_fault, stopped_fault};
+ghost use Rattle.soc.specs.Layout.{state_of};
 ghost use Rattle.soc.specs.Rv.{rv};
-ghost use Rattle.soc.specs.Stopped.{all_off, stopped_fault};
+ghost use Rattle.soc.specs.Stopped.{all_off};
 ghost use Rattle.soc.specs.Soc.{act, cycle, finish, fresh, received, take_interrupt};
 ghost use Rattle.soc.specs.Turn.{EmptyFrom, only_did, put_out};
 
-use crate::control::{Act, Control, Fault};
+use crate::control::{Act, Control};
 use crate::state::{control, core, is_on, set_control, set_core, set_on};
-use crate::turn::{core_after, goes_on, spoken};
-use cores::port::{Event, Line, Out};
+use cores::port::{Event, Fault, Line, Out};
 use rv32::core_state::{Core, Effect};
 
 // A line comes for the core whose turn it is. At most one is asked for, so the first is all that come.
@@ -67,12 +67,12 @@ fn finish(chip: &mut [u32], effect: Effect) -> Act
     let before = control(chip);
     let k = before.turn;
     let core = core(chip, k);
-    set_core(chip, k, core_after(core, effect));
-    set_on(chip, k, goes_on(effect));
+    set_core(chip, k, effect.core(core));
+    set_on(chip, k, effect.goes_on());
     set_control(chip, before.passed());
     Act::Does {
         wrote: before.written(effect),
-        said: spoken(effect),
+        said: effect.said(),
     }
 }
 
@@ -83,7 +83,7 @@ fn act(chip: &mut [u32]) -> Act
     ensures out { put_out (state_of chip.old).turn result ≡ (act rv (state_of chip.old)).1 }
 {
     let shared = control(chip);
-    if let Some(_) = shared.asked {
+    if shared.asked.is_some() {
         return Act::Waits;
     }
     if !is_on(chip, shared.turn) {
@@ -245,7 +245,7 @@ pub fn fresh(chip: &mut [u32], cores: usize, lines: u32) -> Result<(), Fault>
     if chip.len() < 16384 {
         return Err(Fault::ChipShort);
     }
-    if cores < 1 || cores > 4 {
+    if !(1..=4).contains(&cores) {
         return Err(Fault::Cores);
     }
     fresh_in(chip, cores, lines);
@@ -259,6 +259,5 @@ pub fn all_stopped(chip: &[u32]) -> Result<bool, Fault>
     if chip.len() < 16384 {
         return Err(Fault::ChipShort);
     }
-    let some = is_on(chip, 0) || is_on(chip, 1) || is_on(chip, 2) || is_on(chip, 3);
-    Ok(!some)
+    Ok(!(0..4).any(|k| is_on(chip, k)))
 }

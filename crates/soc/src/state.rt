@@ -1,61 +1,12 @@
 // The chip's state in the lent words: parts of it read out by value, and written back.
 ghost use Rattle.std.specs.Prelude.{◌≡◌, ◌<◌, ◌≤◌, length};
-ghost use Rattle.cores.specs.Put.{put};
-ghost use Rattle.soc.specs.Layout.{asked_of, buffer_of, control_of, core_of, cpus_of, ons_of, shared, state_of, with_cpu, with_on, with_shared};
+ghost use Rattle.soc.specs.Layout.{asked_of, buffer_of, control_of, shared, state_of, with_cpu, with_on, with_shared};
 
 use crate::control::Control;
 use cores::port::Line;
+use cores::registers::{Flags, Registers};
 use rv32::core_state::Core;
-
-fn read_core(block: &[u32]) -> Core
-    requires { length block.now ≡ 35 }
-    ensures { result ≡ core_of block.now }
-{
-    let mut registers = [0; 32];
-    registers.copy_from_slice(&block[3..35]);
-    Core {
-        pc: block[0],
-        registers,
-        epc: block[1],
-        lets: block[2] != 0,
-    }
-}
-
-fn write_core(block: &mut [u32], core: Core)
-    requires { length block.old ≡ 35 }
-    ensures { core_of block.new ≡ core }
-{
-    block[0..3].copy_from_slice(&[core.pc, core.epc, core.lets as u32]);
-    block[3..35].copy_from_slice(&core.registers);
-}
-
-fn core_at(cores: &[u32], k: usize) -> Core
-    requires { (k < 4) × (length cores.now ≡ 140) }
-    ensures { result ≡ cpus_of cores.now k }
-{
-    read_core(&cores[35 * k..35 * k + 35])
-}
-
-fn put_core(cores: &mut [u32], k: usize, core: Core)
-    requires { (k < 4) × (length cores.old ≡ 140) }
-    ensures { cpus_of cores.new ≡ put (cpus_of cores.old) k core }
-{
-    write_core(&mut cores[35 * k..35 * k + 35], core);
-}
-
-fn on_at(ons: &[u32], k: usize) -> bool
-    requires { (k < 4) × (length ons.now ≡ 4) }
-    ensures { result ≡ ons_of ons.now k }
-{
-    ons[k] != 0
-}
-
-fn put_on(ons: &mut [u32], k: usize, on: bool)
-    requires { (k < 4) × (length ons.old ≡ 4) }
-    ensures { ons_of ons.new ≡ put (ons_of ons.old) k on }
-{
-    ons[k] = on as u32;
-}
+use words::table::{at, put_at};
 
 fn read_buffer(block: &[u32]) -> Option<Line>
     requires { length block.now ≡ 10 }
@@ -88,7 +39,7 @@ fn write_buffer(block: &mut [u32], buffer: Option<Line>)
 fn read_asked(full: u32, number: u32) -> Option<u32>
     ensures { result ≡ asked_of full number }
 {
-    if full == 0 { None } else { Some(number) }
+    (full != 0).then_some(number)
 }
 
 fn read_control(block: &[u32]) -> Control
@@ -126,14 +77,14 @@ pub(crate) fn core(chip: &[u32], k: usize) -> Core
     requires { (k < 4) × (169 ≤ length chip.now) }
     ensures { result ≡ (state_of chip.now).cpu k }
 {
-    core_at(&chip[0..140], k)
+    at::<Registers>(&chip[0..140], k)
 }
 
 pub(crate) fn set_core(chip: &mut [u32], k: usize, core: Core)
     requires { (k < 4) × (169 ≤ length chip.old) }
     ensures { state_of chip.new ≡ with_cpu (state_of chip.old) k core }
 {
-    put_core(&mut chip[0..140], k, core);
+    put_at::<Registers>(&mut chip[0..140], k, core);
 }
 
 // Whether core k goes.
@@ -141,14 +92,14 @@ pub(crate) fn is_on(chip: &[u32], k: usize) -> bool
     requires { (k < 4) × (169 ≤ length chip.now) }
     ensures { result ≡ (state_of chip.now).on k }
 {
-    on_at(&chip[140..144], k)
+    at::<Flags>(&chip[140..144], k)
 }
 
 pub(crate) fn set_on(chip: &mut [u32], k: usize, on: bool)
     requires { (k < 4) × (169 ≤ length chip.old) }
     ensures { state_of chip.new ≡ with_on (state_of chip.old) k on }
 {
-    put_on(&mut chip[140..144], k, on);
+    put_at::<Flags>(&mut chip[140..144], k, on);
 }
 
 // What the cores share.

@@ -5,8 +5,7 @@ ghost use Rattle.rv32.specs.Laws.{Supplied};
 ghost use Rattle.cores.specs.Ports.{line_of, somes};
 ghost use Rattle.soc.specs.Buffers.{holds, lacks_data, lies_in, line_in, words_of};
 ghost use Rattle.soc.specs.Rv.{word_of};
-ghost use Rattle.rv32.specs.Did.{cpu_after, on_after};
-ghost use Rattle.soc.specs.Soc.{spoken, written};
+ghost use Rattle.soc.specs.Soc.{written};
 ghost use Rattle.soc.specs.Turn.{filled, lacked, turned, words_in};
 
 use crate::control::Control;
@@ -17,15 +16,13 @@ use rv32::decode::decoded;
 fn holds(buffer: Option<Line>, a: u32) -> bool
     ensures { result ≡ holds buffer a }
 {
-    match buffer {
-        Some(line) => line.number == a,
-        None => false,
-    }
+    buffer.is_some_and(|line| line.number == a)
 }
 
 fn words_of(buffer: Option<Line>) -> [u32; 8]
     ensures { result ≡ words_of buffer }
 {
+    // not `map_or`, of whose default the contract of a closure says nothing
     match buffer {
         Some(line) => line.words,
         None => [0; 8],
@@ -36,10 +33,7 @@ fn words_of(buffer: Option<Line>) -> [u32; 8]
 fn lies_in(number: Option<u32>, a: u32) -> bool
     ensures { result ≡ lies_in number a }
 {
-    match number {
-        Some(number) => number / 8 == a,
-        None => false,
-    }
+    number.is_some_and(|number| number / 8 == a)
 }
 
 impl Control {
@@ -142,35 +136,5 @@ impl Control {
             loaded: None,
             ..self
         }
-    }
-}
-
-// The registers of a core after an instruction.
-pub(crate) fn core_after(core: Core, effect: Effect) -> Core
-    ensures { result ≡ cpu_after core (did effect) }
-{
-    match effect {
-        Effect::Goes { core } | Effect::Stores { core, .. } | Effect::Says { core, .. } => core,
-        Effect::Stops => core,
-    }
-}
-
-// Whether it goes on.
-pub(crate) fn goes_on(effect: Effect) -> bool
-    ensures { result ≡ on_after (did effect) }
-{
-    match effect {
-        Effect::Goes { .. } | Effect::Stores { .. } | Effect::Says { .. } => true,
-        Effect::Stops => false,
-    }
-}
-
-// The word that is said.
-pub(crate) fn spoken(effect: Effect) -> Option<u32>
-    ensures { (k : ℕ) → somes (λ x. (k, x)) (result ∷ []) ≡ spoken k (did effect) }
-{
-    match effect {
-        Effect::Says { word, .. } => Some(word),
-        Effect::Goes { .. } | Effect::Stores { .. } | Effect::Stops => None,
     }
 }
