@@ -2,5 +2,4 @@
 pub mod Rows
 pub mod Places
 pub mod Writes
-pub mod Lookups
 pub mod Follows

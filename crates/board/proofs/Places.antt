@@ -10,7 +10,10 @@ use Rattle.words.proofs.Lines.{line_written}
 use Rattle.words.proofs.Parts.{part_here, part_other}
 use Rattle.board.specs.Layout.{beyond, place, row_in, row_of}
 use Rattle.board.specs.declared.row.Waiting.{Waiting}
-use Rattle.board.proofs.Rows.{nobody}
+
+-- what is read past the end of a row
+abbrev pub nobody : Waiting
+nobody = record { line = 0; left = 0 }
 
 -- tables that agree on their first n places
 same_places : (f g : ℕ → Waiting) (n : ℕ) → ((k : ℕ) → k < n → f k ≡ g k) → map f (range_with_len 0 n) ≡ map g (range_with_len 0 n)
@@ -36,9 +39,10 @@ places_more w xs i h l e =
     map-range_with_len_more (place u) 0 i i (omega arith) ∙ ap₂ (λ (ys : List Waiting) y. ys ++ y ∷ []) front here ∙ sym (take_more xs i nobody l)
 
 -- and how many there are
-pub places_counted : (w : List ℕ) (xs : List Waiting) (n : ℕ) → length w ≡ 1024 → n ≤ 16 → map (place w) (range_with_len 0 n) ≡ take n xs → row_in (set w 32 n) ≡ take n xs
+pub places_counted : (w : List ℕ) (xs : List Waiting) → length w ≡ 1024 → length xs ≤ 16 → map (place w) (range_with_len 0 (length xs)) ≡ xs → row_in (set w 32 (length xs)) ≡ xs
 unfolding row_in
-places_counted w xs n h l e =
+places_counted w xs h l e =
+    let n = length xs in
     let c : min (get_or (set w 32 n) 32 0) 16 ≡ n = ap (λ k. min k 16) (get_or-set_same w 32 n 0 (omega arith)) ∙ omega arith in
     ap (λ k. map (place (set w 32 n)) (range_with_len 0 k)) c ∙ places_set w n 32 n (omega arith) ∙ e
 

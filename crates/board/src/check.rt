@@ -16,27 +16,18 @@ use cores::port::{Line, Out};
 fn writes_inside(writes: &[Option<Line>], lines: usize) -> bool
     ensures { result ≡ inside lines (somes (λ (l : Line). l.number) writes.now) }
 {
-    let mut all = true;
-    'writes: for write in writes {
-        let Some(line) = *write else {
-            continue;
-        };
-        if line.number as usize >= lines {
-            all = false;
-            break 'writes;
-        }
-    }
-    all
+    writes
+        .iter()
+        .flatten()
+        .all(|line| (line.number as usize) < lines)
 }
 
 // Refuses what asks for or writes a line outside memory.
 pub(crate) fn check_out(out: &Out, lines: usize) -> Result<(), Fault>
     ensures { result_err result ≡ astray lines out.now }
 {
-    if let Some(line) = out.asks {
-        if line as usize >= lines {
-            return Err(Fault::Outside);
-        }
+    if out.asks.is_some_and(|line| line as usize >= lines) {
+        return Err(Fault::Outside);
     }
     if !writes_inside(&out.writes, lines) {
         return Err(Fault::Outside);
@@ -58,7 +49,7 @@ pub(crate) fn check_length(board: &[u32], lines: usize) -> Result<(), Fault>
 // The row of a board, which is refused where it is too short or a line outside memory waits.
 pub(crate) fn sound_row(board: &[u32], lines: usize) -> Result<Row, Fault>
     ensures fault { result_err result ≡ unsound lines board.now }
-    ensures row { IfOk result (λ row. (items_of row ≡ row_of lines board.now) × (row.count ≤ 16) × (inside lines (map line_in (items_of row)) ≡ true)) }
+    ensures row { IfOk result (λ row. (items_of row ≡ row_of lines board.now) × (inside lines (map line_in (items_of row)) ≡ true)) }
     ensures long { OnOk result (8 * lines + 1024 ≤ length board.now) }
 {
     check_length(board, lines)?;

@@ -1,11 +1,12 @@
 // Memory and the row in the lent words of a board.
-ghost use Rattle.std.specs.Prelude.{◌≡◌, ◌+◌, ◌*◌, ◌<◌, ◌≤◌, [], length, nat_lt, slice_index_or, slice_set};
+ghost use Rattle.std.specs.Prelude.{◌≡◌, ◌+◌, ◌*◌, ◌<◌, ◌≤◌, length, nat_lt, slice_set};
 ghost use Rattle.cores.specs.Board.{with_lines};
 ghost use Rattle.cores.specs.Ports.{line_of, somes};
 ghost use Rattle.board.specs.Layout.{beyond, memory_of, row_in, row_of};
-ghost use Rattle.board.specs.Rows.{items_of};
+ghost use Rattle.board.specs.Rows.{items_of, line_there};
 
 use crate::row::{Row, Waiting};
+use arrayvec::ArrayVec;
 use cores::port::Line;
 use words::line::{line_at, put_line};
 
@@ -22,43 +23,43 @@ pub(crate) fn is_short(words: usize, lines: usize) -> bool
 // The row, read out of its words.
 fn read_row(words: &[u32]) -> Row
     requires { length words.now ≡ 1024 }
-    ensures { (items_of result ≡ row_in words.now) × (result.count ≤ 16) }
+    ensures { items_of result ≡ row_in words.now }
 {
-    let mut row = Row::empty();
-    let count = words[32].min(16) as usize;
-    for i in 0..count {
-        row = row.push(Waiting {
+    let mut waiting = ArrayVec::new();
+    for i in 0..words[32].min(16) as usize {
+        waiting.push(Waiting {
             line: words[2 * i],
             left: words[2 * i + 1],
         });
     }
-    row
+    Row { waiting }
 }
 
 // The row, written into its words.
-fn write_row(words: &mut [u32], row: Row)
-    requires { (length words.old ≡ 1024) × (row.count ≤ 16) }
-    ensures { row_in words.new ≡ items_of row }
+fn write_row(words: &mut [u32], row: &Row)
+    requires { length words.old ≡ 1024 }
+    ensures { row_in words.new ≡ items_of row.now }
 {
-    for i in 0..row.count {
-        words[2 * i] = row.items[i].line;
-        words[2 * i + 1] = row.items[i].left;
+    let waiting = row.waiting.as_slice();
+    for (i, place) in waiting.iter().enumerate() {
+        words[2 * i] = place.line;
+        words[2 * i + 1] = place.left;
     }
-    words[32] = row.count as u32;
+    words[32] = waiting.len() as u32;
 }
 
 // The row of a board.
 pub(crate) fn row_at(board: &[u32], lines: usize) -> Row
     requires { 8 * lines + 1024 ≤ length board.now }
-    ensures { (items_of result ≡ row_of lines board.now) × (result.count ≤ 16) }
+    ensures { items_of result ≡ row_of lines board.now }
 {
     read_row(&board[8 * lines..8 * lines + ROW])
 }
 
 // The row becomes the one given; all else stays.
-pub(crate) fn put_row(board: &mut [u32], lines: usize, row: Row)
-    requires { (8 * lines + 1024 ≤ length board.old) × (row.count ≤ 16) }
-    ensures { (row_of lines board.new ≡ items_of row) × ((memory_of lines board.new ≡ memory_of lines board.old) × (beyond lines board.new ≡ beyond lines board.old)) }
+pub(crate) fn put_row(board: &mut [u32], lines: usize, row: &Row)
+    requires { 8 * lines + 1024 ≤ length board.old }
+    ensures { (row_of lines board.new ≡ items_of row.now) × ((memory_of lines board.new ≡ memory_of lines board.old) × (beyond lines board.new ≡ beyond lines board.old)) }
 {
     write_row(&mut board[8 * lines..8 * lines + ROW], row);
 }
@@ -66,7 +67,7 @@ pub(crate) fn put_row(board: &mut [u32], lines: usize, row: Row)
 // A line of memory, with its number.
 pub(crate) fn read_line(board: &[u32], lines: usize, number: u32) -> Line
     requires { (8 * lines + 1024 ≤ length board.now) × (number < lines) }
-    ensures { line_of result ≡ (number, slice_index_or (memory_of lines board.now) number []) }
+    ensures { result ≡ line_there (memory_of lines board.now) number }
 {
     Line {
         number,

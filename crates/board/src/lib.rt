@@ -16,6 +16,7 @@ use crate::coming::{at_places, at_their_time};
 use crate::fault::Fault;
 use crate::layout::{put_row, write_lines};
 use crate::row::Row;
+use arrayvec::ArrayVec;
 use cores::port::{Line, Out};
 
 mod check;
@@ -32,32 +33,32 @@ pub fn start(board: &mut [u32], lines: usize) -> Result<(), Fault>
     ensures rest { beyond lines board.new ≡ beyond lines board.old }
 {
     check_length(board, lines)?;
-    put_row(board, lines, Row::empty());
+    put_row(board, lines, &Row::empty());
     Ok(())
 }
 
 // The lines that are given at these places of the row, with what memory has now. A place that nobody waits in gives nothing.
-pub fn given(board: &[u32], lines: usize, places: &[u8]) -> Result<[Option<Line>; 16], Fault>
+pub fn given(board: &[u32], lines: usize, places: &[u8]) -> Result<ArrayVec<Line, 16>, Fault>
     ensures fault { result_err result ≡ unsound lines board.now }
-    ensures come { IfOk result (λ come. somes line_of come ≡ handed (memory_of lines board.now) places.now 0 (waiting_of lines board.now)) }
+    ensures come { IfOk result (λ come. map line_of come.items ≡ handed (memory_of lines board.now) places.now 0 (waiting_of lines board.now)) }
 {
     let row = sound_row(board, lines)?;
-    Ok(at_places(board, lines, row, places))
+    Ok(at_places(board, lines, &row, places))
 }
 
 // The lines that come now on the steady board, with what memory has now.
-pub fn due(board: &[u32], lines: usize) -> Result<[Option<Line>; 16], Fault>
+pub fn due(board: &[u32], lines: usize) -> Result<ArrayVec<Line, 16>, Fault>
     ensures fault { result_err result ≡ unsound lines board.now }
-    ensures come { IfOk result (λ come. somes line_of come ≡ due (memory_of lines board.now) (timed_of lines board.now)) }
+    ensures come { IfOk result (λ come. map line_of come.items ≡ due (memory_of lines board.now) (timed_of lines board.now)) }
 {
     let row = sound_row(board, lines)?;
-    Ok(at_their_time(board, lines, row))
+    Ok(at_their_time(board, lines, &row))
 }
 
 // Memory takes what a chip writes, and the row becomes the one given with the line that the chip asks for, which comes `left` cycles after the next.
 fn finish(board: &mut [u32], lines: usize, row: Row, out: &Out, left: u32) -> Result<(), Fault>
-    requires { (8 * lines + 1024 ≤ length board.old) × (row.count ≤ 16) }
-    ensures fault { result_err result ≡ or_else (astray lines out.now) (full (row.count + length (asks_of out.now))) }
+    requires { 8 * lines + 1024 ≤ length board.old }
+    ensures fault { result_err result ≡ or_else (astray lines out.now) (full (length (items_of row) + length (asks_of out.now))) }
     ensures memory { OnOk result (memory_of lines board.new ≡ with_lines (memory_of lines board.old) (writes_of out.now)) }
     ensures waiting { OnOk result (waiting_of lines board.new ≡ map line_in (items_of row) ++ asks_of out.now) }
     ensures timed { OnOk result (timed_of lines board.new ≡ map pair_in (items_of row) ++ asked (λ _. left) (asks_of out.now)) }
@@ -67,7 +68,7 @@ fn finish(board: &mut [u32], lines: usize, row: Row, out: &Out, left: u32) -> Re
     check_out(out, lines)?;
     let next = row.with_asked(out.asks, left)?;
     write_lines(board, lines, &out.writes);
-    put_row(board, lines, next);
+    put_row(board, lines, &next);
     Ok(())
 }
 
@@ -127,7 +128,7 @@ mod tests {
         start(&mut words, 2)?;
         after(&mut words, 2, &[], &puts_out(Some(1), None))?;
         let first = given(&words, 2, &[0])?;
-        let line = first[0].ok_or("no line")?;
+        let line = first.first().ok_or("no line")?;
         assert_eq!(rt; line.number, 1);
         assert_eq!(rt; line.words, [0; 8]);
         let write = Line {
@@ -135,7 +136,7 @@ mod tests {
             words: [7; 8],
         };
         after(&mut words, 2, &[0], &puts_out(None, Some(write)))?;
-        assert!(rt; given(&words, 2, &[0])?[0].is_none());
+        assert!(rt; given(&words, 2, &[0])?.is_empty());
         assert_eq!(rt; words.get(15).copied(), Some(7));
         Ok(())
     }
@@ -146,9 +147,9 @@ mod tests {
         let mut words = vec![in rt.alloc(); 0; 1040]?;
         start(&mut words, 2)?;
         after_steady(&mut words, 2, 1, &puts_out(Some(0), None))?;
-        assert!(rt; due(&words, 2)?[0].is_none());
+        assert!(rt; due(&words, 2)?.is_empty());
         after_steady(&mut words, 2, 1, &puts_out(None, None))?;
-        assert!(rt; due(&words, 2)?[0].is_some());
+        assert_eq!(rt; due(&words, 2)?.len(), 1);
         let refused = after_steady(&mut words, 2, 1, &puts_out(Some(2), None));
         assert!(rt; matches!(refused, Err(Fault::Outside)));
         Ok(())

@@ -1,124 +1,106 @@
 // The row of lines that wait, by value.
-ghost use Rattle.std.specs.Prelude.{◌≡◌, ◌+◌, ◌<◌, ◌≤◌, [], ◌∷◌, ◌++◌, map, length, IfOk};
+ghost use Rattle.std.specs.Prelude.{◌≡◌, ℕ, ◌+◌, ◌<◌, [], ◌∷◌, ◌++◌, map, length, Option, IfOk, slice_index_or};
 ghost use Rattle.std.specs.Result.{result_err};
 ghost use Rattle.cores.specs.Board.{among, asked, kept, later};
 ghost use Rattle.cores.specs.Ports.{somes};
 ghost use Rattle.board.specs.Faults.{full};
-ghost use Rattle.board.specs.Rows.{inside, items_of, line_in, pair_in};
+ghost use Rattle.board.specs.Rows.{chosen, inside, items_of, line_in, pair_in};
+ghost use Rattle.board.specs.declared.row.Waiting.{Waiting};
 
 use crate::fault::Fault;
+use arrayvec::ArrayVec;
 
 // A line that waits, and how many cycles after the next it comes, which only the steady board asks.
-#[derive(Clone, Copy)]
+#[derive(Clone, Copy, Default)]
 pub(crate) struct Waiting {
     pub(crate) line: u32,
     pub(crate) left: u32,
 }
 
-// The first `count` of sixteen places, the oldest first.
-#[derive(Clone, Copy)]
+// Those that wait, at most sixteen, the oldest first.
+#[derive(Drop)]
 pub(crate) struct Row {
-    pub(crate) items: [Waiting; 16],
-    pub(crate) count: usize,
+    pub(crate) waiting: ArrayVec<Waiting, 16>,
 }
 
 // Whether place i is among those given.
 pub(crate) fn is_among(places: &[u8], i: usize) -> bool
     ensures { result ≡ among i places.now }
 {
-    let mut found = false;
-    'places: for p in places {
-        if i == *p as usize {
-            found = true;
-            break 'places;
-        }
-    }
-    found
+    places.iter().any(|p| i == *p as usize)
 }
 
 impl Row {
     // A row in which nobody waits.
     pub(crate) fn empty() -> Row
-        ensures { (items_of result ≡ []) × (result.count ≡ 0) }
+        ensures { items_of result ≡ [] }
     {
         Row {
-            items: [Waiting { line: 0, left: 0 }; 16],
-            count: 0,
+            waiting: ArrayVec::new(),
         }
     }
 
-    // The row with one more at its end.
-    pub(crate) fn push(self, waiting: Waiting) -> Row
-        requires { self.count < 16 }
-        ensures { (items_of result ≡ items_of self ++ waiting ∷ []) × (result.count ≡ self.count + 1) }
+    // What is made of those that wait and of their places, the oldest first, without those of which nothing is made.
+    pub(crate) fn chosen<T: Default + Drop, F: Fn(usize, Waiting) -> Option<T>>(
+        &self,
+        choose: F,
+    ) -> ArrayVec<T, 16>
+        requires { (i : ℕ) (w : Waiting) → i < length (items_of self.now) → w ≡ slice_index_or (items_of self.now) i w → F.pre choose i w }
+        ensures { (of : ℕ → Waiting → Option T) → ((i : ℕ) (w : Waiting) (o : Option T) → i < length (items_of self.now) → w ≡ slice_index_or (items_of self.now) i w → F.post choose i w o → o ≡ of i w) → result.items ≡ chosen of 0 (items_of self.now) }
     {
-        let mut row = self;
-        row.items[row.count] = waiting;
-        row.count += 1;
-        row
+        let mut out = ArrayVec::new();
+        let row = self.waiting.as_slice();
+        for (i, waiting) in row.iter().enumerate() {
+            if let Some(made) = choose(i, *waiting) {
+                out.push(made);
+            }
+        }
+        out
     }
 
     // The row without the places given.
-    pub(crate) fn without(self, places: &[u8]) -> Row
-        requires { self.count ≤ 16 }
-        ensures { (map line_in (items_of result) ≡ kept places.now 0 (map line_in (items_of self))) × ((result.count ≡ length (kept places.now 0 (map line_in (items_of self)))) × (result.count ≤ self.count)) }
+    pub(crate) fn without(&self, places: &[u8]) -> Row
+        ensures { map line_in (items_of result) ≡ kept places.now 0 (map line_in (items_of self.now)) }
     {
-        let mut row = Row::empty();
-        for i in 0..self.count {
-            if !is_among(places, i) {
-                row = row.push(self.items[i]);
-            }
+        Row {
+            waiting: self.chosen(|i, w| if is_among(places, i) { None } else { Some(w) }),
         }
-        row
     }
 
     // The row without those that come now, the others a cycle nearer.
-    pub(crate) fn later(self) -> Row
-        requires { self.count ≤ 16 }
-        ensures { (map pair_in (items_of result) ≡ later (map pair_in (items_of self))) × ((result.count ≡ length (later (map pair_in (items_of self)))) × (result.count ≤ self.count)) }
+    pub(crate) fn later(&self) -> Row
+        ensures { map pair_in (items_of result) ≡ later (map pair_in (items_of self.now)) }
     {
-        let mut row = Row::empty();
-        for i in 0..self.count {
-            let waiting = self.items[i];
-            if waiting.left > 0 {
-                row = row.push(Waiting {
-                    line: waiting.line,
-                    left: waiting.left - 1,
-                });
-            }
+        Row {
+            waiting: self.chosen(|_, w| {
+                w.left
+                    .checked_sub(1)
+                    .map(|left| Waiting { line: w.line, left })
+            }),
         }
-        row
     }
 
     // Whether each line of the row is one of the first `lines`.
-    pub(crate) fn is_inside(self, lines: usize) -> bool
-        requires { self.count ≤ 16 }
-        ensures { result ≡ inside lines (map line_in (items_of self)) }
+    pub(crate) fn is_inside(&self, lines: usize) -> bool
+        ensures { result ≡ inside lines (map line_in (items_of self.now)) }
     {
-        let mut all = true;
-        'row: for i in 0..self.count {
-            if self.items[i].line as usize >= lines {
-                all = false;
-                break 'row;
-            }
-        }
-        all
+        self.waiting
+            .as_slice()
+            .iter()
+            .all(|w| (w.line as usize) < lines)
     }
 
     // The row with the line that is asked for now, if any, and the cycles after the next till it comes; refused where sixteen wait already.
-    pub(crate) fn with_asked(self, asks: Option<u32>, left: u32) -> Result<Row, Fault>
-        requires { self.count ≤ 16 }
+    pub(crate) fn with_asked(mut self, asks: Option<u32>, left: u32) -> Result<Row, Fault>
         ensures lines { IfOk result (λ s. map line_in (items_of s) ≡ map line_in (items_of self) ++ somes (λ a. a) (asks ∷ [])) }
         ensures timed { IfOk result (λ s. map pair_in (items_of s) ≡ map pair_in (items_of self) ++ asked (λ _. left) (somes (λ a. a) (asks ∷ []))) }
-        ensures count { IfOk result (λ s. s.count ≤ 16) }
-        ensures fault { result_err result ≡ full (self.count + length (somes (λ a. a) (asks ∷ []))) }
+        ensures fault { result_err result ≡ full (length (items_of self) + length (somes (λ a. a) (asks ∷ []))) }
     {
-        let Some(line) = asks else {
-            return Ok(self);
-        };
-        if self.count >= 16 {
-            return Err(Fault::Full);
+        if let Some(line) = asks {
+            self.waiting
+                .try_push(Waiting { line, left })
+                .map_err(|_| Fault::Full)?;
         }
-        Ok(self.push(Waiting { line, left }))
+        Ok(self)
     }
 }

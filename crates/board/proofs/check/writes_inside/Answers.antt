@@ -1,23 +1,17 @@
--- The line looked at is outside, or the rest decides.
-use Rattle.std.proofs.Common.{◌≡◌, true, false, ltb, sym, ◌∙◌, arith}
-use Rattle.board.proofs.Writes.{outside_more, outside_none, outside_skip}
+-- The lines are inside if each of them is.
+use Rattle.std.proofs.Common.{ltb, rules, tests, ◌∙◌}
+use Rattle.std.specs.Option.{option_to_list}
+use Rattle.std.proofs.lemmas.Iterator.{YieldsList-from_slice}
+use Rattle.std.proofs.lemmas.Iterator.Adapters.{YieldsList-from_flatten}
+use Rattle.std.proofs.lemmas.Iterator.Consumers.{YieldsList-at}
+use Rattle.std.proofs.lemmas.Iterator.Search.{all_from_yields_List}
+use Rattle.cores.specs.declared.port.Line.{Line}
+use Rattle.board.proofs.Writes.{inside_all, of_place}
 use Rattle.board.proofs.check.writes_inside.Goals as goal
 
-pub writes-preserved-in_default : goal.writes-preserved-in_default
-writes-preserved-in_default c =
-    (outside_skip c.args.lines c.args.writes.now c.writes.write-index (omega arith) c.in_default.is ∙ c.writes.invariant.0, c.writes.invariant.1)
-
-pub writes-preserved : goal.writes-preserved
-writes-preserved c =
-    let e = outside_more c.args.lines c.args.writes.now c.writes.write-index c.in-Some.line (omega arith) c.in-Some.is in
-    let n : ltb c.in-Some.line.number c.args.lines ≡ true = grind arith in
-    (sym (rw n at e) ∙ c.writes.invariant.0, c.writes.invariant.1)
-
-pub returns-after-writes : goal.returns-after-writes
-returns-after-writes c = c.writes.invariant.1 ∙ sym (outside_none c.args.lines c.args.writes.now c.writes.write-index (omega arith)) ∙ c.writes.invariant.0
-
-pub returns-then-line-lines : goal.returns-then-line-lines
-returns-then-line-lines c =
-    let e = outside_more c.args.lines c.args.writes.now c.writes.write-index c.in-Some.line (omega arith) c.in-Some.is in
-    let n : ltb c.in-Some.line.number c.args.lines ≡ false = grind arith in
-    sym (rw n at e) ∙ c.writes.invariant.0
+pub returns : goal.returns
+returns c =
+    all_from_yields_List (λ (l : Line). ltb l.number c.args.lines) _ _ _ c.all.ensures.ran
+    (YieldsList-from_flatten _ _ _ option_to_list (λ x j h. of_place j x.now h.0 h.1) (YieldsList-at c.flatten.ensures.source (YieldsList-from_slice c.args.writes.now cc)) c.flatten.ensures.front c.flatten.ensures.back c.flatten.ensures.done)
+    (λ x b q k. search (rules, tests))
+    ∙ inside_all c.args.lines c.args.writes.now

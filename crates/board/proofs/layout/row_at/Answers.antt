@@ -8,4 +8,4 @@ pub returns : goal.returns
 unfolding row_of
 returns c =
     let e : (8 * c.args.lines + 1024) - 8 * c.args.lines ≡ 1024 = omega arith in
-    (c.read_row.ensures.0 ∙ ap row_in (part_is _ 1024 _ c.args.board.now e), c.read_row.ensures.1)
+    c.read_row.ensures ∙ ap row_in (part_is _ 1024 _ c.args.board.now e)

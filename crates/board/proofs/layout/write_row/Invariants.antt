@@ -6,4 +6,4 @@ use Rattle.board.proofs.layout.write_row.Given as goal
 
 -- the places so far are written
 abbrev pub invariant-loop-i : goal.invariant-loop-i
-invariant-loop-i l = map (place l.words) (range_with_len 0 l.i) ≡ take l.i l.row.items
+invariant-loop-i l = map (place l.words) (range_with_len 0 l.i) ≡ take l.i l.waiting

@@ -1,29 +1,12 @@
--- The line looked at is outside, or the rest decides.
-use Rattle.std.proofs.Common.{◌≡◌, true, false, ltb, map, length, get_or, sym, ◌∙◌, arith}
-use Rattle.board.specs.Rows.{items_of, line_in}
-use Rattle.board.proofs.Rows.{inside_more, inside_none, items_length, item_line}
+-- The row is inside if each of its lines is.
+use Rattle.std.proofs.Common.{ltb, rules, tests, ◌∙◌}
+use Rattle.std.proofs.lemmas.Iterator.{YieldsList-from_slice}
+use Rattle.std.proofs.lemmas.Iterator.Search.{all_from_yields_List}
+use Rattle.board.specs.Rows.{line_in}
+use Rattle.board.proofs.Rows.{all_inside}
 use Rattle.board.proofs.row.Row.is_inside.Goals as goal
 
-pub row-preserved : goal.row-preserved
-row-preserved c =
-    let xs = map line_in (items_of c.args.self) in
-    let long : length xs ≡ c.args.self.count = items_length c.args.self (omega arith) in
-    let e = inside_more c.args.lines c.row.i xs (omega arith) in
-    let a = item_line c.args.self c.row.i (omega arith) (omega arith) in
-    let n : ltb (get_or xs c.row.i 0) c.args.lines ≡ true = grind arith in
-    (sym (rw n at e) ∙ c.row.invariant.0, c.row.invariant.1)
-
-pub returns-after-row : goal.returns-after-row
-returns-after-row c =
-    let xs = map line_in (items_of c.args.self) in
-    let long : length xs ≡ c.args.self.count = items_length c.args.self (omega arith) in
-    c.row.invariant.1 ∙ sym (inside_none c.args.lines c.row.i xs (omega arith)) ∙ c.row.invariant.0
-
-pub returns-then-self-i : goal.returns-then-self-i
-returns-then-self-i c =
-    let xs = map line_in (items_of c.args.self) in
-    let long : length xs ≡ c.args.self.count = items_length c.args.self (omega arith) in
-    let e = inside_more c.args.lines c.row.i xs (omega arith) in
-    let a = item_line c.args.self c.row.i (omega arith) (omega arith) in
-    let n : ltb (get_or xs c.row.i 0) c.args.lines ≡ false = grind arith in
-    sym (rw n at e) ∙ c.row.invariant.0
+pub returns : goal.returns
+returns c =
+    all_from_yields_List (λ w. ltb (line_in w) c.args.lines) _ _ _ c.all.ensures.ran (YieldsList-from_slice c.args.self.now.waiting.items cc) (λ x b q k. search (rules, tests))
+    ∙ all_inside line_in c.args.lines c.args.self.now.waiting.items

@@ -1,24 +1,16 @@
 -- Nothing is asked for, or one more waits.
-use Rattle.std.proofs.Common.{sym, arith}
-use Rattle.std.proofs.lemmas.List.{append-nil}
+use Rattle.std.proofs.Common.{◌≡◌, [], ◌∷◌, ◌++◌, rules, sym, ap, map, ◌∙◌, append-nil}
+use Rattle.std.proofs.lemmas.List.{map_push}
 use Rattle.cores.specs.Board.{asked}
-use Rattle.board.specs.Rows.{line_in, pair_in}
-use Rattle.board.proofs.Rows.{fits, pushed}
+use Rattle.board.specs.Rows.{items_of, pair_in}
 use Rattle.board.proofs.row.Row.with_asked.Goals as goal
+use Rattle.board.proofs.row.Row.with_asked.Goals.{in-Some+in_ok-map_err, in_default}
 
-pub returns-in_default : goal.returns-in_default
+pub returns-clause-timed : goal.returns-clause-timed
 unfolding asked
-returns-in_default c =
-    let e = c.in_default.is in
-    record { lines = rw e (sym (append-nil _)); timed = rw e (sym (append-nil _)); count = c.requires; fault = rw e (fits _ (omega arith)) }
-
-pub returns : goal.returns
-unfolding asked
-returns c =
-    let e = c.in-Some.is in
-    record {
-      lines = rw e (pushed line_in c.args.self c.push.result _ c.push.ensures.0);
-      timed = rw e (pushed pair_in c.args.self c.push.result _ c.push.ensures.0);
-      count = omega arith;
-      fault = rw e (fits _ (omega arith));
-    }
+returns-clause-timed c = elim c.match-asks.branch [
+  | in-Some+in_ok-map_err w ↦
+      let e : w.try_push.new.self.items ≡ c.args.self.waiting.items ++ record { line = w.in-Some.line; left = c.args.left } ∷ [] = search rules in
+      rw (w.self-is, w.in-Some.is) (ap (map pair_in) e ∙ map_push pair_in c.args.self.waiting.items _)
+  | in_default w ↦ rw (w.self-is, w.in_default.is) (sym (append-nil (map pair_in (items_of c.args.self))))
+]
