@@ -1,5 +1,5 @@
 -- Rows with empty places: one place more of a loop over them.
-use Rattle.std.proofs.Common.{◌≡◌, ℕ, ◌+◌, ◌<◌, ◌≤◌, Bool, true, false, cond, ltb, List, [], ◌∷◌, length, get_or, drop, set, Some, None, Option, sym, refl, ap, ◌∙◌, subst, arith}
+use Rattle.std.proofs.Common.{◌≡◌, ℕ, Bool, true, false, cond, ltb, List, [], ◌∷◌, ◌++◌, map, length, set, Some, None, Option, sym, refl, ap, ◌∙◌, subst, arith}
 use Rattle.std.specs.List.{flat_map, list_all}
 use Rattle.std.specs.Option.{option_to_list}
 use Rattle.std.specs.Bool.{MatchBool}
@@ -7,32 +7,35 @@ use Rattle.std.specs.Borrow.{Bor}
 use Rattle.std.specs.Iterator.Adapters.{option_iter_item, option_iter_done, option_iter_steps}
 use Rattle.std.proofs.lemmas.Iterator.{YieldsList}
 use Rattle.std.proofs.lemmas.Iterator.Consumers.{YieldsList-from_shown}
-use Rattle.std.proofs.lemmas.List.{at_drop_more, at_drop_all}
+use Rattle.std.proofs.lemmas.List.{map_push}
+use Rattle.std.proofs.lemmas.Simd.{map-map}
 use Rattle.cores.specs.Board.{with_lines}
 use Rattle.cores.specs.Ports.{line_of, somes}
 use Rattle.cores.specs.declared.port.Line.{Line}
 use Rattle.board.specs.Rows.{inside}
 
-module _ {A B : Type 0} (of : A → B) where
-  -- the place looked at, and the rest
-  pub somes_more : (xs : List (Option A)) (k : ℕ) (o : Option A) → k < length xs → get_or xs k None ≡ o → somes of (drop k xs) ≡ somes of (o ∷ drop (k + 1) xs)
-  somes_more xs k o h e = at_drop_more (somes of) xs k None h ∙ ap (λ (p : Option A). somes of (p ∷ drop (k + 1) xs)) e
+-- one line more is written
+written_push : (m : List (List ℕ)) (ws : List (ℕ × List ℕ)) (w : ℕ × List ℕ) → with_lines m (ws ++ w ∷ []) ≡ set (with_lines m ws) w.0 w.1
+unfolding with_lines
+written_push m [] w = refl
+written_push m (v ∷ ws) w = written_push (set m v.0 v.1) ws w
 
-  pub somes_none : (xs : List (Option A)) (k : ℕ) → length xs ≤ k → somes of (drop k xs) ≡ []
-  somes_none xs k h = at_drop_all (somes of) xs k h
+pub one_more : {A : Type 0} (m : List (List ℕ)) (line : A → Line) (done : List A) (a : A) (now after : List (List ℕ)) → now ≡ with_lines m (map (λ x. line_of (line x)) done) →
+    after ≡ set now (line a).number (line a).words → after ≡ with_lines m (map (λ x. line_of (line x)) (done ++ a ∷ []))
+one_more m line done a now after e w =
+    let of : _ → ℕ × List ℕ = λ x. line_of (line x) in
+    w ∙ ap (λ (v : List (List ℕ)). set v (line a).number (line a).words) e ∙ sym (written_push m (map of done) (of a)) ∙ ap (with_lines m) (sym (map_push of done a))
 
--- a loop that writes lines
-module _ (m : List (List ℕ)) (xs : List (Option Line)) (k : ℕ) where
-  pub writes_all : length xs ≤ k → m ≡ with_lines m (somes line_of (drop k xs))
-  unfolding with_lines
-  writes_all h = sym (ap (with_lines m) (somes_none line_of xs k h))
+-- the lines of a row, without the empty places
+lines_there : (xs : List (Option Line)) → somes line_of xs ≡ map line_of (flat_map option_to_list xs)
+lines_there [] = refl
+lines_there (None ∷ xs) = lines_there xs
+lines_there (Some l ∷ xs) = ap (λ (ws : List (ℕ × List ℕ)). line_of l ∷ ws) (lines_there xs)
 
-  pub writes_skip : k < length xs → get_or xs k None ≡ None → with_lines m (somes line_of (drop (k + 1) xs)) ≡ with_lines m (somes line_of (drop k xs))
-  writes_skip h e = sym (ap (with_lines m) (somes_more line_of xs k None h e))
-
-  pub writes_more : (l : Line) → k < length xs → get_or xs k None ≡ Some l → with_lines (set m l.number l.words) (somes line_of (drop (k + 1) xs)) ≡ with_lines m (somes line_of (drop k xs))
-  unfolding with_lines
-  writes_more l h e = sym (ap (with_lines m) (somes_more line_of xs k (Some l) h e))
+pub all_written : {A : Type 0} (m : List (List ℕ)) (line : A → Line) (done : List A) (xs : List (Option Line)) (now : List (List ℕ)) → now ≡ with_lines m (map (λ x. line_of (line x)) done) →
+    map line done ≡ flat_map option_to_list xs → now ≡ with_lines m (somes line_of xs)
+all_written m line done xs now e all =
+    e ∙ ap (with_lines m) (sym (map-map line_of line done) ∙ ap (map line_of) all ∙ sym (lines_there xs))
 
 -- the iterator of a place gives what it has, once
 module _ {A : Type 0} where
@@ -54,7 +57,7 @@ module _ {A : Type 0} where
       let same : cond (option_iter_done s) [] (option_to_list (option_iter_item s)) ≡ option_to_list o = ap (λ b. cond b [] (option_to_list (option_iter_item s))) e ∙ ap option_to_list h in
       subst (λ (ys : List A). YieldsList (option_iter_steps {A = A}) (λ y. y.now) s ys) same all
 
--- the lines of a row, without the empty places
+-- the lines of a row that are inside
 pub inside_all : (n : ℕ) (xs : List (Option Line)) → list_all (λ l. ltb l.number n) (flat_map option_to_list xs) ≡ inside n (somes (λ (l : Line). l.number) xs)
 inside_all n [] = refl
 inside_all n (None ∷ xs) = inside_all n xs

@@ -99,10 +99,7 @@ pub(crate) fn write_lines(board: &mut [u32], lines: usize, writes: &[Option<Line
     requires { 8 * lines + 1024 ≤ length board.old }
     ensures { (memory_of lines board.new ≡ with_lines (memory_of lines board.old) (somes line_of writes.now)) × ((row_of lines board.new ≡ row_of lines board.old) × (beyond lines board.new ≡ beyond lines board.old)) }
 {
-    for write in writes {
-        let Some(line) = *write else {
-            continue;
-        };
-        write_line(board, lines, line);
+    for line in writes.iter().flatten() {
+        write_line(board, lines, *line);
     }
 }
