@@ -4,7 +4,9 @@ use Rattle.std.specs.Prelude.{◌≡◌, ℕ, zero, suc, ◌+◌, ◌-◌, ◌/�
 use Rattle.image.specs.Refusals.{then}
 use Rattle.image.specs.declared.choices.Expected.{Expected}
 use Rattle.image.specs.declared.choices.Expected.TheVariants.{Raised, Count, Place}
+use Rattle.image.specs.declared.choices.Records.{Records}
 use Rattle.image.specs.declared.choices.Reader.{Reader}
+use Rattle.image.specs.declared.choices.Record.{Record}
 use Rattle.image.specs.declared.refusal.ChoiceFault.TheVariants.{CutShort, NoSuchCore, NotRising, TooManyCycles}
 use Rattle.image.specs.declared.refusal.Refusal.{Refusal}
 use Rattle.image.specs.declared.refusal.Refusal.TheVariants.{Choices}
@@ -34,6 +36,13 @@ pub record Read (bytes : List ℕ) (at raised : ℕ) (given : List ℕ) (end : �
   pub cycles : cycles_of (drop at bytes) ≡ record { raised = raised; given = given } ∷ cycles_of (drop end bytes)
   pub later : at < end
   pub within : end ≤ length bytes
+
+-- the cycle of a record that is read, and the cycles that are still to come
+abbrev pub cycle_in : Record → Cycle
+cycle_in r = record { raised = r.raised; given = r.given.now }
+
+abbrev pub cycles_left : Records → List Cycle
+cycles_left s = cycles_of (drop s.at s.bytes.now)
 
 -- the bytes of a cycle from a place on: its first byte, how many places it has, and these, up to its end
 pub record Stands (bytes : List ℕ) (at raised : ℕ) (given : List ℕ) (end : ℕ) : Type 0 where

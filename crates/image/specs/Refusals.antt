@@ -1,6 +1,7 @@
 -- The number and the place of each refusal, and steps that may be refused.
 -- Assumes nothing: these are definitions.
-use Rattle.std.specs.Prelude.{ℕ, Ok, Err, Result}
+use Rattle.std.specs.Prelude.{ℕ, List, ◌++◌, Ok, Err, codes, Result}
+use Rattle.std.specs.Fmt.{decimal}
 use Rattle.image.specs.declared.refusal.LentSlice.{LentSlice}
 use Rattle.image.specs.declared.refusal.LentSlice.TheVariants.{Board, Chip, Said}
 use Rattle.image.specs.declared.refusal.Refusal.{Refusal}
@@ -31,6 +32,10 @@ place Cores = 4
 place Lines = 5
 place (Choices fault at) = at
 place (Lent slice) = slice_place slice
+
+-- how it is printed
+abbrev pub text : Refusal → List ℕ
+text r = codes "refused " ++ decimal (number r) ++ codes " at " ++ decimal (place r)
 
 -- a step that may be refused, and then another
 abbrev pub then : {A B : Type 0} → Result A Refusal → (A → Result B Refusal) → Result B Refusal

@@ -1,46 +1,24 @@
 // What is tested before any cycle, and how it is refused.
-ghost use Rattle.std.specs.Prelude.{◌≡◌, ◌+◌, ◌*◌, ◌≤◌, [], IfOk};
-ghost use Rattle.image.specs.Check.{lent_of, check_rule, check_of, Accepted};
+ghost use Rattle.std.specs.Prelude.{◌≡◌, ◌≤◌, [], Ok, Err, cond, nat_lt, IfOk, OnOk};
+ghost use Rattle.image.specs.Check.{check_of, Accepted};
 
 use crate::choices::count_cycles;
 use crate::memory::{Header, read_header};
 use crate::refusal::{LentSlice, Refusal};
 
-// Tests how many words each lent slice has.
-fn check_lent(header: Header, board: usize, chip: usize, said: usize) -> Result<Header, Refusal>
-    requires { header.lines ≤ 65536 }
-    ensures value { result ≡ lent_of header board chip said }
-    ensures long { IfOk result (λ h. (h ≡ header) × (8 * header.lines + 1024 ≤ board) × (16384 ≤ chip) × (16 ≤ said)) }
+// Tests how many words a lent slice has.
+pub(crate) fn test_lent(slice: LentSlice, words: usize, needed: usize) -> Result<(), Refusal>
+    ensures value { result ≡ cond (nat_lt words needed) (Err (Refusal.Lent slice)) (Ok tt) }
+    ensures long { OnOk result (needed ≤ words) }
 {
-    if board < 8 * header.lines + 1024 {
-        return Err(Refusal::Lent(LentSlice::Board));
+    if words < needed {
+        return Err(Refusal::Lent(slice));
     }
-    if chip < 16384 {
-        return Err(Refusal::Lent(LentSlice::Chip));
-    }
-    if said < 16 {
-        return Err(Refusal::Lent(LentSlice::Said));
-    }
-    Ok(header)
-}
-
-// The tests, in their order.
-fn judge(
-    memory: &[u8],
-    choices: &[u8],
-    board: usize,
-    chip: usize,
-    said: usize,
-) -> Result<Header, Refusal>
-    ensures value { result ≡ check_rule memory.now choices.now board chip said }
-    ensures accepted { IfOk result (λ h. Accepted memory.now choices.now board chip said h) }
-{
-    let header = read_header(memory)?;
-    let _ = count_cycles(choices, header.cores)?;
-    check_lent(header, board, chip, said)
+    Ok(())
 }
 
 // Tests a memory, choices for it, and how many words each lent slice has.
+#[tactic(auto, unfolding(crate::specs::Check::check_of))]
 pub fn check(
     memory: &[u8],
     choices: &[u8],
@@ -51,7 +29,12 @@ pub fn check(
     ensures value { result ≡ check_of memory.now choices.now board chip said }
     ensures accepted { IfOk result (λ h. Accepted memory.now choices.now board chip said h) }
 {
-    judge(memory, choices, board, chip, said)
+    let header = read_header(memory)?;
+    let _cycles = count_cycles(choices, header.cores)?;
+    test_lent(LentSlice::Board, board, 8 * header.lines + 1024)?;
+    test_lent(LentSlice::Chip, chip, 16384)?;
+    test_lent(LentSlice::Said, said, 16)?;
+    Ok(header)
 }
 
 // The same for a run without choices.

@@ -1,6 +1,7 @@
 // Choices: for each cycle the interrupt lines, and which of the waiting lines are given.
 ghost use Rattle.std.specs.Prelude.{◌≡◌, ◌+◌, ◌<◌, [], length, drop, Ok, Err, MatchOption, MatchResult, slice_index};
-ghost use Rattle.image.specs.Choices.{up, cycles_of, choices_of, counted, Read, Stands, beyond, places, reading, read, ended, scan};
+ghost use Rattle.std.specs.Iterator.{YieldsFirstBy, item_count};
+ghost use Rattle.image.specs.Choices.{up, cycle_in, cycles_left, cycles_of, choices_of, counted, Read, Stands, beyond, places, reading, read, ended, scan};
 ghost use Rattle.image.specs.declared.choices.Expected.TheVariants.{Raised};
 
 use crate::refusal::{ChoiceFault, Refusal};
@@ -53,42 +54,25 @@ impl Reader {
     fn read(self, cores: usize, at: usize, byte: u8) -> Result<Reader, Refusal>
         ensures { result ≡ read cores self.expected self.begun at byte }
     {
+        let refused = |fault| Err(Refusal::Choices { fault, at });
         match self.expected {
-            Expected::Raised => {
-                if self.begun >= LIMIT {
-                    return Err(Refusal::Choices {
-                        fault: ChoiceFault::TooManyCycles,
-                        at,
-                    });
-                }
-                if beyond(cores, byte) {
-                    return Err(Refusal::Choices {
-                        fault: ChoiceFault::NoSuchCore,
-                        at,
-                    });
-                }
-                Ok(Reader {
-                    expected: Expected::Count,
-                    begun: self.begun + 1,
-                })
-            }
+            Expected::Raised if self.begun >= LIMIT => refused(ChoiceFault::TooManyCycles),
+            Expected::Raised if beyond(cores, byte) => refused(ChoiceFault::NoSuchCore),
+            Expected::Raised => Ok(Reader {
+                expected: Expected::Count,
+                begun: self.begun + 1,
+            }),
             Expected::Count => Ok(Reader {
                 expected: places(byte, 0),
-                begun: self.begun,
+                ..self
             }),
-            Expected::Place { left, least } => {
-                let place = u16::from(byte);
-                if place < least {
-                    return Err(Refusal::Choices {
-                        fault: ChoiceFault::NotRising,
-                        at,
-                    });
-                }
-                Ok(Reader {
-                    expected: places(left.saturating_sub(1), place + 1),
-                    begun: self.begun,
-                })
+            Expected::Place { least, .. } if u16::from(byte) < least => {
+                refused(ChoiceFault::NotRising)
             }
+            Expected::Place { left, .. } => Ok(Reader {
+                expected: places(left.saturating_sub(1), u16::from(byte) + 1),
+                ..self
+            }),
         }
     }
 
@@ -114,8 +98,8 @@ fn scan(bytes: &[u8], cores: usize) -> Result<u64, Refusal>
         expected: Expected::Raised,
         begun: 0,
     };
-    for at in 0..bytes.len() {
-        reader = reader.read(cores, at, bytes[at])?;
+    for (at, byte) in bytes.iter().enumerate() {
+        reader = reader.read(cores, at, *byte)?;
     }
     reader.end(bytes.len())
 }
@@ -132,19 +116,14 @@ pub struct Record<'a> {
 fn record_at(bytes: &[u8], at: usize) -> Option<Record<'_>>
     ensures { MatchOption result (length bytes.now < at + 2 + slice_index bytes.now (at + 1)) (λ c. Stands bytes.now at c.raised c.given.now c.end) }
 {
-    if bytes.len() < 2 || at > bytes.len() - 2 {
+    let [raised, count, places @ ..] = bytes.get(at..)? else {
         return None;
-    }
-    let first = at + 2;
-    let count = bytes[at + 1] as usize;
-    if bytes.len() - first < count {
-        return None;
-    }
-    let end = first + count;
+    };
+    let count = usize::from(*count);
     Some(Record {
-        raised: bytes[at],
-        given: &bytes[first..end],
-        end,
+        raised: *raised,
+        given: places.get(..count)?,
+        end: at + 2 + count,
     })
 }
 
@@ -153,6 +132,34 @@ pub fn cycle_at(bytes: &[u8], at: usize) -> Option<Record<'_>>
     ensures { MatchOption result (cycles_of (drop at bytes.now) ≡ []) (λ c. Read bytes.now at c.raised c.given.now c.end) }
 {
     record_at(bytes, at)
+}
+
+// The records of choices, one after another, up to one that is cut short.
+#[derive(Clone, Copy, PartialEq, Eq, Debug)]
+pub struct Records<'a> {
+    bytes: &'a [u8],
+    at: usize,
+}
+
+// All records of choices.
+pub fn all_records(bytes: &[u8]) -> Records<'_>
+    ensures { cycles_left result ≡ cycles_of bytes.now }
+{
+    Records { bytes, at: 0 }
+}
+
+impl<'a> Iterator for Records<'a> {
+    type Item = Record<'a>;
+
+    ghost next_gives = { YieldsFirstBy cycle_in cycles_left };
+
+    ghost remaining = { item_count cycles_left };
+
+    fn next(&mut self) -> Option<Record<'a>> {
+        let record = cycle_at(self.bytes, self.at)?;
+        self.at = record.end;
+        Some(record)
+    }
 }
 
 // Tests choices for so many cores, and counts their cycles.

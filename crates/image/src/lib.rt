@@ -9,7 +9,7 @@ mod refusal;
 mod write;
 
 pub use accept::{check, check_steady};
-pub use choices::{Record, count_cycles, cycle_at, is_up};
+pub use choices::{Record, Records, all_records, count_cycles, cycle_at, is_up};
 pub use laws::{choice_laws, memory_laws};
 pub use memory::{Header, load, read_header};
 pub use refusal::{ChoiceFault, LentSlice, Refusal};

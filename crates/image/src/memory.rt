@@ -1,8 +1,9 @@
 // A memory: "CHIP", the number of cores, the number of lines, and eight words a line.
 ghost use Rattle.std.specs.Prelude.{◌≡◌, ℕ, ◌+◌, ◌*◌, ◌/◌, ◌≤◌, ◌++◌, length, drop, IfOk};
-ghost use Rattle.image.specs.Memory.{may_be, letters, word_at, header_rule, header_of, Fits, words_of, lent_for, loaded};
+ghost use Rattle.image.specs.Memory.{letters, word_at, header_rule, header_of, Fits, words_of, lent_for, loaded};
 ghost use Rattle.image.specs.Refusals.{then};
 
+use crate::accept::test_lent;
 use crate::refusal::{LentSlice, Refusal};
 
 // How many cores a memory is for, and how many lines it has.
@@ -12,21 +13,14 @@ pub struct Header {
     pub lines: usize,
 }
 
-// Whether the byte at a place is not there, or this one.
-fn may_be(bytes: &[u8], at: usize, byte: u8) -> bool
-    ensures { result ≡ may_be bytes.now at byte }
-{
-    at >= bytes.len() || bytes[at] == byte
-}
-
 // Whether those of the first four bytes that are there are "CHIP".
 fn spells(bytes: &[u8]) -> bool
     ensures { result ≡ letters bytes.now }
 {
-    may_be(bytes, 0, b'C')
-        && may_be(bytes, 1, b'H')
-        && may_be(bytes, 2, b'I')
-        && may_be(bytes, 3, b'P')
+    bytes
+        .iter()
+        .zip(b"CHIP")
+        .all(|(byte, letter)| byte == letter)
 }
 
 // The word in the four bytes from a place on.
@@ -50,14 +44,14 @@ fn read_fields(bytes: &[u8]) -> Result<Header, Refusal>
         return Err(Refusal::MemoryEnds { length });
     }
     let cores = bytes[4] as usize;
-    if cores < 1 || cores > 4 {
+    if !(1..=4).contains(&cores) {
         return Err(Refusal::Cores);
     }
     if length < 9 {
         return Err(Refusal::MemoryEnds { length });
     }
     let lines = word_at(bytes, 5) as usize;
-    if lines < 1 || lines > 65536 {
+    if !(1..=65536).contains(&lines) {
         return Err(Refusal::Lines);
     }
     let end = 9 + 32 * lines;
@@ -83,6 +77,7 @@ fn read_words(bytes: &[u8], memory: &mut [u32])
     requires { length bytes.now ≤ 4 * length memory.old }
     ensures { memory.new ≡ words_of bytes.now ++ drop (length bytes.now / 4) memory.old }
 {
+    // By index, since the word that is written has the same one; over the chunks of the bytes it reads no plainer.
     for i in 0..bytes.len() / 4 {
         memory[i] = word_at(bytes, 4 * i);
     }
@@ -94,9 +89,7 @@ pub fn load(bytes: &[u8], memory: &mut [u32]) -> Result<Header, Refusal>
     ensures after { memory.new ≡ loaded result bytes.now memory.old }
 {
     let header = read_header(bytes)?;
-    if memory.len() < 8 * header.lines {
-        return Err(Refusal::Lent(LentSlice::Board));
-    }
+    test_lent(LentSlice::Board, memory.len(), 8 * header.lines)?;
     read_words(&bytes[9..], memory);
     Ok(header)
 }

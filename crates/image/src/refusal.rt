@@ -1,6 +1,9 @@
 // How a memory, choices or lent slices are refused.
-ghost use Rattle.std.specs.Prelude.{◌≡◌};
-ghost use Rattle.image.specs.Refusals.{number, place};
+ghost use Rattle.std.specs.Prelude.{◌≡◌, Some};
+ghost use Rattle.image.specs.Refusals.{number, place, text};
+
+use std::error::Error;
+use std::fmt;
 
 // What a byte of the choices, or one that is missing, is refused for.
 #[derive(Clone, Copy, PartialEq, Eq, Debug)]
@@ -61,3 +64,14 @@ impl Refusal {
         }
     }
 }
+
+// As programs print it.
+impl fmt::Display for Refusal {
+    ghost output = { λ r. Some (text r) };
+
+    fn fmt<W: fmt::Write>(&self, f: &mut fmt::Formatter<W>) -> fmt::Result {
+        write!(f, "refused {} at {}", self.number(), self.place())
+    }
+}
+
+impl Error for Refusal {}

@@ -71,6 +71,14 @@ fn choices_are_read(rt: HostRuntime) -> Result<(), Fail> {
 }
 
 #[test]
+fn records_come_in_order(rt: HostRuntime) {
+    let mut records = all_records(&[1, 2, 0, 3, 2, 0, 3, 1]);
+    assert_eq!(rt; records.next().map(|record| record.end), Some(4));
+    assert_eq!(rt; records.next().map(|record| record.raised), Some(2));
+    assert!(rt; records.next().is_none());
+}
+
+#[test]
 fn choices_are_refused(rt: HostRuntime) {
     assert_eq!(rt; refused(count_cycles(&[0, 0, 1], 4)), (3, 3));
     assert_eq!(rt; refused(count_cycles(&[0, 3, 1, 2], 4)), (3, 4));

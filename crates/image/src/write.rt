@@ -1,5 +1,5 @@
 // A memory, written out as bytes.
-ghost use Rattle.std.specs.Prelude.{◌≡◌, ◌+◌, ◌*◌, ◌≤◌, ◌++◌, length, take, drop, IfOk};
+ghost use Rattle.std.specs.Prelude.{◌≡◌, ◌+◌, ◌*◌, ◌/◌, ◌≤◌, ◌++◌, length, take, drop, IfOk, OnErr, OnOk};
 ghost use Rattle.image.specs.Memory.{bytes_of, image};
 ghost use Rattle.image.specs.Store.{store_bytes_rule, store_rule, Room, stored, stored_bytes};
 
@@ -16,10 +16,10 @@ fn stored_length(cores: usize, words: usize, room: usize) -> Result<usize, Store
     ensures value { result ≡ store_rule cores words room }
     ensures fits { IfOk result (λ n. Room cores words room n) }
 {
-    if cores < 1 || cores > 4 {
+    if !(1..=4).contains(&cores) {
         return Err(StoreFault::NoSuchCores);
     }
-    if words % 8 != 0 || words < 8 || words > 524288 {
+    if words % 8 != 0 || !(8..=524288).contains(&words) {
         return Err(StoreFault::NoWholeLines);
     }
     let length = 9 + 4 * words;
@@ -38,13 +38,25 @@ fn write_front(bytes: &mut [u8], cores: u8, lines: u32)
     bytes[0..9].copy_from_slice(&[b'C', b'H', b'I', b'P', cores, a, b, c, d]);
 }
 
+// Writes the front of a memory of so many words, and says how many bytes the memory takes. A refusal leaves the bytes as they were.
+fn begin(cores: usize, words: usize, bytes: &mut [u8]) -> Result<usize, StoreFault>
+    ensures value { result ≡ store_rule cores words (length bytes.old) }
+    ensures fits { IfOk result (λ n. Room cores words (length bytes.old) n) }
+    ensures front { OnOk result (bytes.new ≡ image cores (words / 8) (drop 9 bytes.old)) }
+    ensures same { OnErr result (bytes.new ≡ bytes.old) }
+{
+    let length = stored_length(cores, words, bytes.len())?;
+    write_front(bytes, cores as u8, (words / 8) as u32);
+    Ok(length)
+}
+
 // Writes words from the tenth byte on.
 fn write_words(memory: &[u32], bytes: &mut [u8])
     requires { 9 + 4 * length memory.now ≤ length bytes.old }
     ensures { bytes.new ≡ take 9 bytes.old ++ bytes_of memory.now ++ drop (9 + 4 * length memory.now) bytes.old }
 {
-    for i in 0..memory.len() {
-        bytes[9 + 4 * i..13 + 4 * i].copy_from_slice(&memory[i].to_le_bytes());
+    for (i, word) in memory.iter().enumerate() {
+        bytes[9 + 4 * i..13 + 4 * i].copy_from_slice(&word.to_le_bytes());
     }
 }
 
@@ -61,8 +73,7 @@ pub fn store(cores: usize, memory: &[u32], bytes: &mut [u8]) -> Result<usize, St
     ensures value { result ≡ store_rule cores (length memory.now) (length bytes.old) }
     ensures after { bytes.new ≡ stored result cores memory.now bytes.old }
 {
-    let length = stored_length(cores, memory.len(), bytes.len())?;
-    write_front(bytes, cores as u8, (memory.len() / 8) as u32);
+    let length = begin(cores, memory.len(), bytes)?;
     write_words(memory, bytes);
     Ok(length)
 }
@@ -75,8 +86,7 @@ pub fn store_bytes(cores: usize, memory: &[u8], bytes: &mut [u8]) -> Result<usiz
     if memory.len() % 4 != 0 {
         return Err(StoreFault::NoWholeLines);
     }
-    let length = stored_length(cores, memory.len() / 4, bytes.len())?;
-    write_front(bytes, cores as u8, (memory.len() / 32) as u32);
+    let length = begin(cores, memory.len() / 4, bytes)?;
     write_bytes(memory, bytes);
     Ok(length)
 }

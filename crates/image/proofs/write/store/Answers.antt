@@ -7,5 +7,5 @@ pub returns : goal.returns
 returns c =
     record {
       value = search rules;
-      after = image_written _ _ _ _ _ c.args.bytes.now _ _ c.in_ok-length.ensures.fits.takes c.write_front.ensures c.write_words.ensures;
+      after = image_written _ _ _ _ _ c.args.bytes.now _ _ c.in_ok-length.ensures.fits.takes c.in_ok-length.ensures.front c.write_words.ensures;
     }
