@@ -1,5 +1,9 @@
 // The machines, and what an event comes to.
+ghost use Rattle.std.specs.Prelude.{◌≡◌};
+ghost use Rattle.reference.specs.declared.machines.Fault.TheVariants.{OutOfMemory};
+
 use rv32::core_state::Core;
+use std::alloc::AllocError;
 
 // One of the machines: its registers, and whether it still goes.
 #[derive(Clone, Copy)]
@@ -35,4 +39,12 @@ pub enum Outcome {
 pub enum Fault {
     TooLarge,
     OutOfMemory,
+}
+
+impl From<AllocError> for Fault {
+    ghost from_gives = { λ _ fault. fault ≡ OutOfMemory };
+
+    fn from(_e: AllocError) -> Fault {
+        Fault::OutOfMemory
+    }
 }

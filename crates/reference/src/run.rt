@@ -49,11 +49,14 @@ fn store(memory: &mut [u32], effect: Effect, lines: u32)
     }
 }
 
-// Whether a memory has over 65,536 lines.
+// How many words a memory may have: 65,536 lines of eight.
+const MOST_WORDS: usize = 65_536 * 8;
+
+// Whether a memory has more.
 fn is_too_large(memory: &[u32]) -> bool
     ensures { result ≡ nat_lt 524288 (length memory.now) }
 {
-    memory.len() > 524_288
+    memory.len() > MOST_WORDS
 }
 
 impl Machine {
@@ -101,6 +104,7 @@ impl Machines {
         if count > 4 {
             return None;
         }
+        // Written out, since `map` says of each call only that one was made at that number.
         let machines = [
             Machine::new(0),
             Machine::new(1),
@@ -114,6 +118,7 @@ impl Machines {
     fn running(&self, k: usize) -> Option<Machine>
         ensures { MatchOption result (OffAt self.now k) (λ m. OnAt self.now k m) }
     {
+        // The fields are public, so that `count` may be past the row.
         if k >= self.count || k >= 4 {
             return None;
         }
@@ -191,9 +196,7 @@ impl Machines {
         if is_too_large(memory) {
             return Err(Fault::TooLarge);
         }
-        if outcomes.reserve(events.len()).is_err() {
-            return Err(Fault::OutOfMemory);
-        }
+        outcomes.reserve(events.len())?;
         for event in events {
             let outcome = self.happens(memory, *event);
             outcomes.push_reserved(outcome);

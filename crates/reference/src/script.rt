@@ -4,7 +4,7 @@ ghost use Rattle.reference.specs.Script.{event_letter, letter_event};
 
 use cores::port::Event;
 
-// The event that a letter stands for.
+// The event that a letter stands for. No `TryFrom`, since both types are of other crates.
 pub fn event_of(letter: u8) -> Option<Event>
     ensures { result ≡ letter_event letter }
 {
