@@ -8,7 +8,8 @@ ghost use Rattle.board.specs.Rows.{items_of, line_there};
 use crate::row::{Row, Waiting};
 use arrayvec::ArrayVec;
 use cores::port::Line;
-use words::line::{line_at, put_line};
+use words::line::Lines;
+use words::table::{at, put_at};
 
 // The words after memory that belong to the row.
 const ROW: usize = 1024;
@@ -71,7 +72,7 @@ pub(crate) fn read_line(board: &[u32], lines: usize, number: u32) -> Line
 {
     Line {
         number,
-        words: line_at(board, number as usize),
+        words: at::<Lines>(board, number as usize),
     }
 }
 
@@ -80,7 +81,7 @@ fn put_memory(board: &mut [u32], lines: usize, number: usize, words: [u32; 8])
     requires { (8 * lines + 1024 ≤ length board.old) × (number < lines) }
     ensures { (memory_of lines board.new ≡ slice_set (memory_of lines board.old) number words) × ((row_of lines board.new ≡ row_of lines board.old) × (beyond lines board.new ≡ beyond lines board.old)) }
 {
-    put_line(&mut board[0..8 * lines], number, words);
+    put_at::<Lines>(&mut board[0..8 * lines], number, words);
 }
 
 // Memory takes a line that is written; one that is not there is not written. All else stays.
