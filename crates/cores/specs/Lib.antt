@@ -8,6 +8,7 @@ pub mod Registers
 pub mod Faults
 pub mod Loop
 pub mod Owed
+pub mod Kept
 pub mod Rv32
 pub mod Programs
 pub mod Toy

@@ -7,6 +7,7 @@ pub mod Rank
 pub mod Turns
 pub mod Rv
 pub mod Owed
+pub mod Kept
 pub mod Regions
 pub mod Attempt
 pub mod Outs

@@ -41,10 +41,10 @@ row_inside n (Some c) a b l = rw (apart a c (omega arith))
     apart a c l = grind arith
 
 module _ (κ : Kind) (laws : Laws κ) where
-  abbrev Inv : State κ → Board → Man κ → Type 0
+  abbrev pub Inv : State κ → Board → Man κ → Type 0
   Inv h b μ = Agrees κ laws h b.memory b.waiting b.said μ
 
-  kept : Kept κ.isa (chip κ) Inv
+  pub kept : Kept κ.isa (chip κ) Inv
   unfolding board_after
   kept = record {
     starts = starts κ laws;
