@@ -10,7 +10,8 @@ use Rattle.cached.specs.Soc.{State, Hints, cycle, chip}
 use Rattle.cached.specs.Coherent.{Good, view, Asks, Fair, Bound}
 use Rattle.directory.specs.Directory.{Request, wants, Stage, fetches}
 use Rattle.link.specs.Messages.{Grant, quiet, is_quiet, over, Probe, ask, is_unasked, all_unasked}
-use Rattle.cached.specs.Parts.{Always, Owners, Values, Places, Fetched, comes, with_grants, with_answers, Rows, Turn, AllParts, Below, Inside}
+use Rattle.cores.specs.Kept.{Below}
+use Rattle.cached.specs.Parts.{Always, Owners, Values, Places, Fetched, comes, with_grants, with_answers, Rows, Turn, AllParts, Inside}
 use Rattle.cached.specs.Rank.{number, Asked}
 use Rattle.cached.specs.Rv.{rv}
 use Rattle.cache.specs.Slots.{Slot, empty, has, owns, dirties}

@@ -10,7 +10,7 @@ use Rattle.cached.specs.Soc.{State, requeue, hand_on, share_on, drop_probe, lets
 use Rattle.directory.specs.Directory.{nobody, Request, idle, wants, queued, probing, fetching, free}
 use Rattle.cached.specs.Kind.{Kind, Laws}
 use Rattle.link.specs.Messages.{Probe, unasked, ask, all_unasked}
-use Rattle.cached.specs.Parts.{Below}
+use Rattle.cores.specs.Kept.{Below}
 use Rattle.cache.specs.Slots.{Slot, empty, holds, has, back}
 use Rattle.cached.proofs.Agrees.{Agrees, After, Keeps, slot_size, each_keeps}
 use Rattle.cached.proofs.Base.{eqb_self}

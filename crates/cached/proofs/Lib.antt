@@ -42,3 +42,4 @@ pub mod Said
 pub mod Replies
 pub mod Arrivals
 pub mod Quiet
+pub mod Settled

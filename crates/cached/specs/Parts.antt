@@ -4,6 +4,7 @@ use Rattle.std.specs.Prelude.{◌≡◌, ℕ, ◌+◌, ◌/◌, ◌<◌, ◌≤�
 use Rattle.cores.specs.Machines.{steps, Manual, core, manual_after}
 use Rattle.cores.specs.Board.{Choice, Out, Board, handed, kept, powered}
 use Rattle.cores.specs.Promise.{Memory, once}
+use Rattle.cores.specs.Kept.{Below}
 use Rattle.cores.specs.Owed.{following}
 use Rattle.cores.specs.Rv32.{rv32}
 use Rattle.cached.specs.Rv.{rv}
@@ -99,11 +100,6 @@ pub record Turn (c : State rv) (b : Board) (μ : Manual rv32) : Type 0 where
 -- probes are sent only where none is on its way: from any state whatever the start of a request leaves the probes, or there were none
 abbrev pub RoomForProbes : Type 0
 RoomForProbes = (c : State rv) → ((start_next rv c).0.hints.probe ≡ c.hints.probe) ⊎ (all_unasked c.hints.probe ≡ true)
-
--- each line of a row is one of a memory of n lines
-abbrev pub Below : ℕ → List ℕ → Type 0
-Below n [] = Unit {0}
-Below n (a ∷ w) = (a < n) × Below n w
 
 -- LINES OF MEMORY. What the board is asked for and told to write, in a cycle too
 pub record Inside (c : State rv) (b : Board) (μ : Manual rv32) : Type 0 where
