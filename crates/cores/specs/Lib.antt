@@ -9,6 +9,7 @@ pub mod Faults
 pub mod Loop
 pub mod Owed
 pub mod Kept
+pub mod Lent
 pub mod Rv32
 pub mod Programs
 pub mod Toy

@@ -1,42 +1,30 @@
--- Where the chip agrees with the board, the board refuses nothing in the next cycle.
-use Rattle.std.proofs.Common.{◌≡◌, ℕ, ◌+◌, ◌*◌, ◌<◌, ◌≤◌, Bool, true, false, cond, ◌&&◌, ltb, List, [], ◌∷◌, ◌++◌, length, Some, None, Option, sym, refl, ap, ◌∙◌, subst, arith, length-append}
+-- In a run the board refuses nothing in the next cycle: the lines that wait, and those that the chip asks for and writes, are memory's, and few wait.
+use Rattle.std.proofs.Common.{◌≡◌, ℕ, ◌+◌, ◌*◌, ◌<◌, ◌≤◌, Bool, true, false, cond, ◌&&◌, ltb, List, [], ◌∷◌, map, length, Some, None, Option, sym, refl, ap, ◌∙◌, subst, arith}
 use Rattle.words.proofs.Lines.{line_count}
-use Rattle.cores.specs.Board.{Choice, Out, handed, kept}
+use Rattle.cores.specs.Board.{Choice, Out, handed, kept, powered}
+use Rattle.cores.specs.Kept.{AlwaysInside, Below, Inside}
+use Rattle.cores.specs.Lent.{Lent}
 use Rattle.cores.specs.Owed.{cycled}
 use Rattle.cores.specs.Ports.{line_of, somes}
+use Rattle.cores.specs.Promise.{Memory}
 use Rattle.cores.specs.declared.port.Line.{Line}
 use Rattle.cores.specs.declared.port.Out as port
-use Rattle.cores.proofs.Basics.{with_lines_length}
 use Rattle.board.specs.Faults.{unfit, unsound, full}
 use Rattle.board.specs.Layout.{board_of, memory_of, waiting_of}
 use Rattle.board.specs.Rows.{inside, asks_of, writes_of}
 use Rattle.board.specs.declared.fault.Fault.TheVariants.{Short}
-use Rattle.soc.specs.Layout.{state_of}
-use Rattle.soc.specs.Rv.{rv}
-use Rattle.soc.specs.Soc.{State, chip}
-use Rattle.soc.proofs.Lines.{row, Below}
-use Rattle.soc.proofs.Keeps.{Man, Agrees, cycle_keeps}
-use Rattle.soc.proofs.Rv.{rv_laws}
 use Rattle.system.specs.Cycle.{Fitting, PutsOut}
-use Rattle.system.proofs.Within.{numbers, cycle_inside}
 
-and_right : (a b : Bool) → (a && b) ≡ true → b ≡ true
-and_right a b e = grind arith
+-- the numbers of lines
+abbrev numbers : List (ℕ × List ℕ) → List ℕ
+numbers ws = map (λ w. w.0) ws
 
-inside_right : (n : ℕ) (xs ys : List ℕ) → inside n (xs ++ ys) ≡ true → inside n ys ≡ true
-inside_right n [] ys h = h
-inside_right n (x ∷ xs) ys h = inside_right n xs ys (and_right (ltb x n) (inside n (xs ++ ys)) h)
-
-row_inside : (n : ℕ) (x : Option ℕ) → Below n x → inside n (row x) ≡ true
-row_inside n None b = refl
-row_inside n (Some a) b = go a n b
+below_inside : (n : ℕ) (xs : List ℕ) → Below n xs → inside n xs ≡ true
+below_inside n [] b = refl
+below_inside n (x ∷ xs) b = go x n (inside n xs) b.0 (below_inside n xs b.1)
   where
-    go : (a n : ℕ) → a < n → (ltb a n && true) ≡ true
-    go a n l = grind arith
-
-row_short : (x : Option ℕ) → length (row x) ≤ 16
-row_short None = omega arith
-row_short (Some a) = omega arith
+    go : (x n : ℕ) (r : Bool) → x < n → r ≡ true → (ltb x n && r) ≡ true
+    go x n r l e = grind arith
 
 -- the numbers of the lines written, both ways
 numbers_same : (ws : List (Option Line)) → somes (λ (l : Line). l.number) ws ≡ numbers (somes line_of ws)
@@ -57,47 +45,44 @@ unfit_none : (n : ℕ) (board : List ℕ) (o : port.Out) (left : ℕ) → unsoun
     inside n (somes (λ (l : Line). l.number) o.writes) ≡ true → left + length (asks_of o) ≤ 16 → unfit n board o left ≡ None
 unfit_none n board o left u a w l = rw (u, a, w, not_full (left + length (asks_of o)) l)
 
-module _ (n : ℕ) (chips board : List ℕ) (c : Choice) (s : List (ℕ × ℕ)) (μ : Man rv) (l : 8 * n + 1024 ≤ length board)
-    (g : Agrees rv rv_laws (state_of chips) (memory_of n board) (waiting_of n board) s μ) where
-  abbrev out : Out
-  out = (cycled (chip rv) (state_of chips) (board_of n board [] []) c).1
+-- the lent words are those of a chip of n cores with memory m, and of its board, after these choices
+pub record Stands (L : Lent) (n lines : ℕ) (m : List (List ℕ)) (cs : List Choice) (chips board : List ℕ) : Type 0 where
+  pub state : L.state_of chips ≡ (powered L.chip n m cs).0
+  pub memory : memory_of lines board ≡ (powered L.chip n m cs).1.memory
+  pub waiting : waiting_of lines board ≡ (powered L.chip n m cs).1.waiting
 
-  abbrev after : State rv
-  after = (cycled (chip rv) (state_of chips) (board_of n board [] []) c).0
+module _ (L : Lent) (kept-inside : AlwaysInside L.chip) (n lines : ℕ) (m : List (List ℕ)) (cs : List Choice) (chips board : List ℕ) (s : Stands L n lines m cs chips board)
+    (p : 1 ≤ n) (q : n ≤ 4) (r : Memory m) (l : 8 * lines + 1024 ≤ length board) (c : Choice) where
+  -- memory has so many lines
+  size : length (powered L.chip n m cs).1.memory ≡ lines
+  size = sym (ap length s.memory) ∙ line_count lines board
 
-  size_same : (state_of chips).size ≡ n
-  size_same = sym g.outside ∙ line_count n board
+  within : Inside L.chip (powered L.chip n m cs).0 (powered L.chip n m cs).1
+  within = kept-inside n m cs p q r
 
-  row_sound : unsound n board ≡ None
-  row_sound = unsound_none n board l (rw g.waits (row_inside n (state_of chips).asked (subst (λ k. Below k (state_of chips).asked) size_same g.below)))
+  -- rows below the number of lines
+  lies : (xs ys : List ℕ) → xs ≡ ys → Below (length (powered L.chip n m cs).1.memory) ys → inside lines xs ≡ true
+  lies xs ys e b = ap (inside lines) e ∙ below_inside lines ys (subst (λ (k : ℕ). Below k ys) size b)
 
-  abbrev then_waiting : List ℕ
-  then_waiting = kept c.given 0 (waiting_of n board) ++ out.asks
+  row_sound : unsound lines board ≡ None
+  row_sound = unsound_none lines board l (lies (waiting_of lines board) (powered L.chip n m cs).1.waiting s.waiting within.waiting)
 
-  then_row : (then_waiting ≡ row after.asked) × Below n after.asked
-  then_row =
-      let k = cycle_keeps rv rv_laws (state_of chips) (memory_of n board) (waiting_of n board) s μ c.given c.raised g in
-      (k.waits, subst (λ i. Below i after.asked) (sym k.outside ∙ with_lines_length (memory_of n board) out.writes ∙ line_count n board) k.below)
+  abbrev put_out : Out
+  put_out = (cycled L.chip (powered L.chip n m cs).0 (powered L.chip n m cs).1 c).1
 
-  asks_inside : inside n out.asks ≡ true
-  asks_inside = inside_right n (kept c.given 0 (waiting_of n board)) out.asks (rw then_row.0 (row_inside n after.asked then_row.1))
+  out_same : (cycled L.chip (L.state_of chips) (board_of lines board [] []) c).1 ≡ put_out
+  out_same = λ i. (L.chip.cycle (s.state i) (handed (s.memory i) c.given 0 (s.waiting i)) c.raised).1
 
-  writes_inside : inside n (numbers out.writes) ≡ true
-  writes_inside = subst (λ k. inside k (numbers out.writes) ≡ true) size_same (cycle_inside rv rv_laws (state_of chips) (handed (memory_of n board) c.given 0 (waiting_of n board)) c.raised)
-
-  few_wait : length (kept c.given 0 (waiting_of n board)) + length out.asks ≤ 16
-  few_wait =
-      let z : length then_waiting ≤ 16 = rw then_row.0 (row_short after.asked) in
-      omega (arith, length-append (kept c.given 0 (waiting_of n board)) out.asks)
-
-  puts_fit : (o : port.Out) (words : List ℕ) → PutsOut n chips board c o words → unfit n board o (length (kept c.given 0 (waiting_of n board))) ≡ None
+  puts_fit : (o : port.Out) (words : List ℕ) → PutsOut L lines chips board c o words → unfit lines board o (length (kept c.given 0 (waiting_of lines board))) ≡ None
   puts_fit o words e =
-      let a : asks_of o ≡ out.asks = ap (λ (r : Out). r.asks) e in
-      let w : writes_of o ≡ out.writes = ap (λ (r : Out). r.writes) e in
-      unfit_none n board o (length (kept c.given 0 (waiting_of n board))) row_sound (ap (inside n) a ∙ asks_inside)
-      (ap (inside n) (numbers_same o.writes ∙ ap numbers w) ∙ writes_inside)
-      (subst (λ (k : List ℕ). length (kept c.given 0 (waiting_of n board)) + length k ≤ 16) (sym a) few_wait)
+      let a : asks_of o ≡ put_out.asks = ap (λ (r : Out). r.asks) (e ∙ out_same) in
+      let w : writes_of o ≡ put_out.writes = ap (λ (r : Out). r.writes) (e ∙ out_same) in
+      let k : kept c.given 0 (waiting_of lines board) ≡ kept c.given 0 (powered L.chip n m cs).1.waiting = ap (kept c.given 0) s.waiting in
+      unfit_none lines board o (length (kept c.given 0 (waiting_of lines board))) row_sound
+      (lies (asks_of o) put_out.asks a (within.asks c))
+      (lies (somes (λ (l : Line). l.number) o.writes) (numbers put_out.writes) (numbers_same o.writes ∙ ap numbers w) (within.writes c))
+      (let z = within.room c in omega (arith, ap length a, ap length k))
 
   -- neither the lines given nor what the chip puts out is refused
-  pub fitting : Fitting n chips board c
+  pub fitting : Fitting L lines chips board c
   fitting = record { sound = row_sound; fits = puts_fit }

@@ -1,8 +1,8 @@
--- The proofs: in a run the board refuses nothing, and each cycle is one of the chip on the board.
-pub mod Within
+-- The proofs: nothing is refused in a run, and each cycle is one more.
+pub mod Recorded
+pub mod ByChoices
 pub mod Fits
 pub mod Steps
 pub mod Runs
 pub mod Power
-pub mod Recorded
 pub mod Timed

@@ -3,19 +3,16 @@ use Rattle.std.proofs.Common.{◌≡◌, ℕ, zero, suc, ◌+◌, ◌*◌, ◌<�
 use Rattle.std.proofs.lemmas.List.{take-append-le, drop-append-le, length-take-le, get_or_past}
 use Rattle.words.specs.Parts.{lines, part}
 use Rattle.words.proofs.Lines.{line_count, line_word, line_block}
-use Rattle.cores.specs.Machines.{Event, said_by, manual_after}
+use Rattle.cores.specs.Machines.{said_by, manual_after}
 use Rattle.cores.specs.Board.{Choice, powered}
-use Rattle.cores.specs.Promise.{Memory, SameSaid}
+use Rattle.cores.specs.Lent.{Lent}
+use Rattle.cores.specs.Promise.{Memory, Promises, SameSaid}
 use Rattle.cores.specs.Rv32.{rv32}
 use Rattle.cores.proofs.Basics.{by_test, less, not_less}
 use Rattle.image.specs.Memory.{words_of, Fits}
 use Rattle.image.specs.declared.memory.Header.{Header}
 use Rattle.image.proofs.Words.{words_length}
-use Rattle.soc.specs.Rv.{rv}
-use Rattle.soc.specs.Layout.{state_of}
-use Rattle.soc.specs.Soc.{chip}
-use Rattle.soc.specs.Stopped.{all_off}
-use Rattle.soc.proofs.Owed.{soc_promises}
+use Rattle.system.specs.Log.{Log}
 use Rattle.system.specs.Run.{Finished, PoweredOn, Ran, choices_in, memory_in}
 use Rattle.system.specs.declared.run.Ended.{Ended}
 
@@ -61,20 +58,21 @@ memory_proper n w a b l h = (
   (λ k j. words_below n k j w l h),
 )
 
--- the main promise, after these choices
-pub same_here : (n : ℕ) (m : List (List ℕ)) (cs : List Choice) → 1 ≤ n → n ≤ 4 → Memory m → (k : ℕ) →
-    said_by k (powered (chip rv) n m cs).1.said ≡ said_by k (manual_after rv32 n m (powered (chip rv) n m cs).1.did).said
-unfolding SameSaid
-same_here n m cs p q r k = soc_promises.same_said n m cs k p q r
+module _ (L : Lent) (promised : Promises rv32 L.chip) where
+  -- the main promise, after these choices
+  pub same_here : (n : ℕ) (m : List (List ℕ)) (cs : List Choice) → 1 ≤ n → n ≤ 4 → Memory m → (k : ℕ) →
+      said_by k (powered L.chip n m cs).1.said ≡ said_by k (manual_after rv32 n m (powered L.chip n m cs).1.did).said
+  unfolding SameSaid
+  same_here n m cs p q r k = promised.same_said n m cs k p q r
 
--- a run that came to its end keeps the main promise
-pub finished : (h : Header) (memory choices chips-on board-on chips board : List ℕ) (e : Ended) (said0 : List (ℕ × ℕ)) (did0 : List Event) (said : List (ℕ × ℕ)) (did : List Event) →
-    PoweredOn h chips-on board-on → lines h.lines board-on ≡ memory_in h memory → e.cycles ≡ length (choices_in choices) →
-    Ran h.cores h.lines (lines h.lines board-on) (choices_in choices) chips board said0 did0 said did → e.stopped ≡ all_off (state_of chips) →
-    Finished h memory choices e chips board said0 did0 said did
-finished h memory choices chips-on board-on chips board e said0 did0 said did p q k r o = record {
-  cycles = k;
-  ran = subst (λ (m : List (List ℕ)). Ran h.cores h.lines m (choices_in choices) chips board said0 did0 said did) q r;
-  same = same_here h.cores (memory_in h memory) (choices_in choices) p.some_core p.few_cores (subst Memory q p.proper);
-  stopped = o;
-}
+  -- a run that came to its end keeps the main promise
+  pub finished : (h : Header) (memory choices chips-on board-on chips board : List ℕ) (e : Ended) (start log : Log) →
+      PoweredOn L h chips-on board-on → lines h.lines board-on ≡ memory_in h memory → e.cycles ≡ length (choices_in choices) →
+      Ran L h.cores h.lines (lines h.lines board-on) (choices_in choices) chips board start log → e.stopped ≡ L.off (L.state_of chips) →
+      Finished L h memory choices e chips board start log
+  finished h memory choices chips-on board-on chips board e start log p q k r o = record {
+    cycles = k;
+    ran = subst (λ (m : List (List ℕ)). Ran L h.cores h.lines m (choices_in choices) chips board start log) q r;
+    same = same_here h.cores (memory_in h memory) (choices_in choices) p.some_core p.few_cores (subst Memory q p.proper);
+    stopped = o;
+  }

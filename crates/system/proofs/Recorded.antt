@@ -2,7 +2,9 @@
 use Rattle.std.proofs.Common.{◌≡◌, ℕ, ◌+◌, ◌*◌, ◌<◌, ◌≤◌, List, [], ◌∷◌, ◌++◌, map, length, get_or, take, Some, None, Option, sym, refl, ap, ◌∙◌, append_assoc}
 use Rattle.std.proofs.lemmas.List.{take_more, take_all, map-append}
 use Rattle.std.proofs.lemmas.Bool.{cond-false, ne_eqb}
+use Rattle.cores.specs.Machines.{Event}
 use Rattle.cores.specs.Ports.{said_at, somes}
+use Rattle.system.specs.Log.{Log}
 
 -- a core that has said something
 pub said_here : (words : List ℕ) (k : ℕ) → (get_or words (2 * k) 0 ≡ 0 → ⊥) → said_at words k ≡ (k, get_or words (2 * k + 1) 0) ∷ []
@@ -31,3 +33,7 @@ somes_all of row i base now h e = e ∙ ap (λ t. base ++ somes of t) (take_all 
 pub four : {A : Type 0} (x a b c d p q r s : List A) → p ≡ x ++ a → q ≡ p ++ b → r ≡ q ++ c → s ≡ r ++ d → s ≡ x ++ (a ++ b ++ c ++ d)
 four x a b c d p q r s e f g h =
     h ∙ ap (λ t. t ++ d) (g ∙ ap (λ t. t ++ c) (f ∙ ap (λ t. t ++ b) e ∙ append_assoc x a b) ∙ append_assoc x (a ++ b) c) ∙ append_assoc x ((a ++ b) ++ c) d
+
+-- logs with the same words and the same events
+pub same_log : {said said-2 : List (ℕ × ℕ)} {did did-2 : List Event} → said ≡ said-2 → did ≡ did-2 → ◌≡◌ {A = Log} (record { said = said; did = did }) (record { said = said-2; did = did-2 })
+same_log e f = λ i. record { said = e i; did = f i }

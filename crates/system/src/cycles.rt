@@ -5,6 +5,7 @@ ghost use Rattle.system.specs.Run.{CutShort, PoweredOn, Ran, choices_in, lines_u
 
 use crate::listener::{Listener, Unheard};
 use crate::step::cycle;
+use chips::LentChip;
 use image::{Header, cycle_at, is_up};
 
 // The interrupt lines of the four cores that a byte raises.
@@ -20,7 +21,7 @@ fn lines_up(byte: u8) -> [bool; 4]
 }
 
 // Does every cycle of the choices from power-on, and says how many they were.
-pub(crate) fn run_cycles<L: Listener>(
+pub(crate) fn run_cycles<C: LentChip, L: Listener>(
     header: Header,
     choices: &[u8],
     board: &mut [u32],
@@ -28,14 +29,14 @@ pub(crate) fn run_cycles<L: Listener>(
     said: &mut [u32],
     listener: &mut L,
 ) -> Result<u64, Unheard>
-    requires { (PoweredOn header chip.old board.old) × ((16384 ≤ length chip.old) × (16 ≤ length said.old)) }
-    ensures { MatchResult result (λ k. (k ≡ length (choices_in choices.now)) × Ran header.cores header.lines (memory_of header.lines board.old) (choices_in choices.now) chip.new board.new (L.Listener.said listener.old) (L.Listener.did listener.old) (L.Listener.said listener.new) (L.Listener.did listener.new)) (λ _. CutShort header.cores (memory_of header.lines board.old) (choices_in choices.now) (L.Listener.said listener.old) (L.Listener.did listener.old) (L.Listener.said listener.new) (L.Listener.did listener.new)) }
+    requires { (PoweredOn C.lent header chip.old board.old) × ((16384 ≤ length chip.old) × (16 ≤ length said.old)) }
+    ensures { MatchResult result (λ k. (k ≡ length (choices_in choices.now)) × Ran C.lent header.cores header.lines (memory_of header.lines board.old) (choices_in choices.now) chip.new board.new (L.heard listener.old) (L.heard listener.new)) (λ _. CutShort C.lent header.cores (memory_of header.lines board.old) (choices_in choices.now) (L.heard listener.old) (L.heard listener.new)) }
 {
     let mut at = 0;
     let mut done: u64 = 0;
     while let Some(record) = cycle_at(choices, at) {
         let up = lines_up(record.raised);
-        let out = cycle(board, header.lines, chip, record.given, up, said);
+        let out = cycle::<C>(board, header.lines, chip, record.given, up, said);
         listener.hear(&out, said)?;
         at = record.end;
         done += 1;

@@ -1,4 +1,4 @@
-// The chip on the board: run by choices, and on the steady board.
+// A chip on the board: run by choices, and on the steady board. All is generic in the kind of chip.
 #![tactic(auto)]
 
 mod cycles;

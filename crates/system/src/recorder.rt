@@ -1,8 +1,7 @@
 // A listener that keeps all that it hears.
 ghost use Rattle.std.specs.Prelude.{◌≡◌, ℕ, ◌+◌, ◌≤◌, List, [], ◌∷◌, ◌++◌, map, length, vec_len, vec_capacity, slice_index};
-ghost use Rattle.cores.specs.Machines.{Event as Done};
 ghost use Rattle.cores.specs.Ports.{event_of, said_at, somes};
-ghost use Rattle.system.specs.Record.{pair_of};
+ghost use Rattle.system.specs.Record.{pair_of, recorded};
 
 use crate::listener::{Listener, Unheard};
 use cores::port::{Event, Out};
@@ -27,7 +26,7 @@ pub struct Recorder {
 fn word_at(words: &[u32], i: usize) -> u32
     ensures { result ≡ slice_index words.now i }
 {
-    if i < words.len() { words[i] } else { 0 }
+    words.get(i).copied().unwrap_or(0)
 }
 
 // What core k has said, if it has, goes to the end of the words.
@@ -81,20 +80,12 @@ impl Recorder {
 }
 
 impl Listener for Recorder {
-    ghost said = { λ r. map pair_of r.said.items };
-
-    ghost did = { λ r. map event_of r.did.items };
+    ghost heard = { recorded };
 
     fn hear(&mut self, out: &Out, words: &[u32]) -> Result<(), Unheard> {
-        if self.said.reserve(4).is_err() {
-            return Err(Unheard);
-        }
-        if self.did.reserve(8).is_err() {
-            return Err(Unheard);
-        }
-        if self.counts.reserve(1).is_err() {
-            return Err(Unheard);
-        }
+        self.said.reserve(4)?;
+        self.did.reserve(8)?;
+        self.counts.reserve(1)?;
         let before = self.did.len();
         note_word(&mut self.said, words, 0);
         note_word(&mut self.said, words, 1);

@@ -1,14 +1,11 @@
-use Rattle.std.proofs.Common.{◌-◌, ◌≤◌}
+use Rattle.std.proofs.Common.{◌≡◌, ℕ, ◌<◌, false}
 use Rattle.board.specs.Layout.{memory_of}
-use Rattle.system.proofs.Timed.{Far}
+use Rattle.system.specs.Steady.{RanSteady, after_steady}
 use Rattle.system.proofs.steady.run_cycles_steady.Given as goal
 
--- so many cycles are done
+-- so many cycles are done, and after none of them before had every core stopped
 abbrev pub invariant-loop-done : goal.invariant-loop-done
 invariant-loop-done g l =
-    Far l.header.cores l.header.lines l.late (memory_of l.header.lines l.initial.board) (g.L.Listener.said l.initial.listener) (g.L.Listener.did l.initial.listener) l.done l.chip l.board
-    (g.L.Listener.said l.listener) (g.L.Listener.did l.listener)
-    × (l.done ≤ l.cycles)
-
-abbrev pub decreases-loop-done : goal.decreases-loop-done
-decreases-loop-done g l = l.cycles - l.done
+    let m = memory_of l.header.lines l.initial.board in
+    RanSteady g.C.LentChip.lent l.header.cores l.header.lines m l.late l.done l.chip l.board (g.L.Listener.heard l.initial.listener) (g.L.Listener.heard l.listener)
+    × ((j : ℕ) → j < l.done → g.C.LentChip.lent.off (after_steady g.C.LentChip.lent l.header.cores m l.late j).chip ≡ false)
