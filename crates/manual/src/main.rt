@@ -4,13 +4,14 @@
 mod options;
 
 use anyhow::anyhow;
+use command::end::run_or_help;
+use command::files::{bytes_of, save_memory};
 use cores::port::Event;
-use image::{load, read_header, store};
+use image::{load, read_header};
 use options::{Options, Source};
 use reference::machines::{Machines, Outcome};
 use reference::script::event_of;
 use std::alloc::Global;
-use std::fs;
 use std::process::ExitCode;
 
 const HELP: &str = "manual MEMORY EVENTS [--memory FILE]
@@ -35,6 +36,13 @@ struct Tally {
     reported: bool,
 }
 
+// The core of an event.
+fn core_of(event: Event) -> usize {
+    match event {
+        Event::Step(k) | Event::Interrupt(k) => k,
+    }
+}
+
 // Takes down what came of one event, and prints what is said.
 fn note(
     rt: &HostRuntime,
@@ -43,14 +51,12 @@ fn note(
     event: Event,
     outcome: Outcome,
 ) -> anyhow::Result<()> {
-    if let Event::Step(k) = event {
-        if k < 4 && outcome != Outcome::Off {
-            tally.done[k] = tally.done[k].saturating_add(1);
+    let k = core_of(event);
+    if matches!(event, Event::Step(_)) && outcome != Outcome::Off {
+        if let Some(done) = tally.done.get_mut(k) {
+            *done = done.saturating_add(1);
         }
     }
-    let k = match event {
-        Event::Step(k) | Event::Interrupt(k) => k,
-    };
     match outcome {
         Outcome::Done | Outcome::Stopped => {}
         Outcome::Said { core, word } => println!(rt; "core {core} word {word:08x}")?,
@@ -99,9 +105,7 @@ fn event_at(heap: Global, letter: u8, cores: usize, line: u64) -> anyhow::Result
     let Some(event) = event_of(letter) else {
         return Err(no_event(heap, line, letter)?);
     };
-    let k = match event {
-        Event::Step(k) | Event::Interrupt(k) => k,
-    };
+    let k = core_of(event);
     if k >= cores {
         return Err(anyhow!(format!(in heap; "line {line}: there is no core {k}")?));
     }
@@ -121,42 +125,32 @@ fn do_events(
     let mut row = Vec::new(heap);
     let mut outcomes = Vec::new(heap);
     let mut line: u64 = 1;
-    for letter in text {
-        if *letter == b'\n' {
-            do_row(
-                rt,
-                machines,
-                memory,
-                row.as_slice(),
-                &mut outcomes,
-                tally,
-                line,
-            )?;
-            row.clear();
-            line = line.saturating_add(1);
-        } else {
+    for letters in text.split(|letter| *letter == b'\n') {
+        row.clear();
+        for letter in letters {
             row.push(event_at(heap, *letter, cores, line)?)?;
         }
+        do_row(
+            rt,
+            machines,
+            memory,
+            row.as_slice(),
+            &mut outcomes,
+            tally,
+            line,
+        )?;
+        line = line.saturating_add(1);
     }
-    do_row(
-        rt,
-        machines,
-        memory,
-        row.as_slice(),
-        &mut outcomes,
-        tally,
-        line,
-    )
+    Ok(())
 }
 
 // Whether all machines have stopped.
 fn all_stopped(machines: &Machines) -> bool {
-    for (k, machine) in machines.machines.iter().enumerate() {
-        if k < machines.count && machine.on {
-            return false;
-        }
-    }
-    true
+    machines
+        .machines
+        .iter()
+        .take(machines.count)
+        .all(|machine| !machine.on)
 }
 
 // Lets the cores take so many turns in rotation; a core that has stopped passes its turn.
@@ -196,10 +190,8 @@ fn do_turns(
 // Prints how many instructions each core has done, and whether all have stopped.
 fn summary(rt: &HostRuntime, machines: &Machines, tally: &Tally) -> anyhow::Result<()> {
     print!(rt; "done")?;
-    for (k, done) in tally.done.iter().enumerate() {
-        if k < machines.count {
-            print!(rt; " {done}")?;
-        }
+    for done in tally.done.iter().take(machines.count) {
+        print!(rt; " {done}")?;
     }
     println!(rt;
         " {}",
@@ -212,31 +204,13 @@ fn summary(rt: &HostRuntime, machines: &Machines, tally: &Tally) -> anyhow::Resu
     Ok(())
 }
 
-// Writes memory out in the format that is read.
-fn save(rt: &HostRuntime, cores: usize, memory: &[u32], path: &str) -> anyhow::Result<()> {
-    let mut bytes = vec![in rt.alloc(); 0u8; memory.len().saturating_mul(4).saturating_add(9)]?;
-    if store(cores, memory, bytes.as_mut_slice()).is_err() {
-        return Err(anyhow!("memory cannot be written out"));
-    }
-    fs::write(rt, path, bytes.as_slice())?;
-    Ok(())
-}
-
-// The bytes of a file, or an error that names it.
-fn bytes_of(rt: &HostRuntime, path: &str) -> anyhow::Result<Vec<u8>> {
-    match fs::read(rt, path) {
-        Ok(bytes) => Ok(bytes),
-        Err(e) => Err(anyhow!(format!(in rt.alloc(); "cannot read {path}: {e}")?)),
-    }
-}
-
 // Whether all went without a refusal or a report.
 fn run(rt: &HostRuntime, options: &Options) -> anyhow::Result<bool> {
     let bytes = bytes_of(rt, options.memory.as_str())?;
     let header = match read_header(bytes.as_slice()) {
         Ok(header) => header,
         Err(refusal) => {
-            println!(rt; "refused {} at {}", refusal.number(), refusal.place())?;
+            println!(rt; "{refusal}")?;
             return Ok(false);
         }
     };
@@ -259,22 +233,12 @@ fn run(rt: &HostRuntime, options: &Options) -> anyhow::Result<bool> {
     }
     summary(rt, &machines, &tally)?;
     if let Some(path) = &options.save {
-        save(rt, header.cores, memory, path.as_str())?;
+        save_memory(rt, header.cores, memory, path.as_str())?;
     }
     Ok(!tally.reported)
 }
 
 fn main(rt: HostRuntime) -> anyhow::Result<ExitCode> {
-    let options = match options::read(&rt)? {
-        Some(options) => options,
-        None => {
-            println!(rt; "{HELP}")?;
-            return Ok(ExitCode::SUCCESS);
-        }
-    };
-    if run(&rt, &options)? {
-        Ok(ExitCode::SUCCESS)
-    } else {
-        Ok(ExitCode::FAILURE)
-    }
+    let options = options::read(&rt)?;
+    run_or_help(&rt, HELP, options, |options| run(&rt, options))
 }

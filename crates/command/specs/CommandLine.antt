@@ -1,0 +1,13 @@
+-- The words that are still to come.
+-- Assumes nothing: these are definitions.
+use Rattle.std.specs.Prelude.{ℕ, Bool, ◌&&◌, List, length, ◌==◌, nat_lt, slice_index}
+use Rattle.std.specs.Vec.Iter.{into_iter_items}
+use Rattle.command.specs.declared.words.Words.{Words}
+
+-- how many there are
+abbrev pub words_left : Words → ℕ
+words_left w = length (into_iter_items w.words)
+
+-- whether a word begins like an option
+abbrev pub names_option : List ℕ → Bool
+names_option word = nat_lt 0 (length word) && slice_index word 0 == 45

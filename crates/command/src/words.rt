@@ -1,0 +1,84 @@
+// The words of a command line, and what is wrong with them.
+ghost use Rattle.std.specs.Prelude.{◌≡◌, ◌+◌, ◌≤◌, IfNone, OnSome};
+ghost use Rattle.command.specs.CommandLine.{names_option, words_left};
+
+use anyhow::anyhow;
+use std::alloc::Global;
+use std::env;
+
+// Whether a word names an option.
+pub fn is_option(word: &str) -> bool
+    ensures { result ≡ names_option word.now }
+{
+    word.as_bytes().first() == Some(&b'-')
+}
+
+// The words after the name of a program, which errors send to its help.
+#[derive(Drop)]
+pub struct Words {
+    program: &'static str,
+    heap: Global,
+    words: env::Args<Global>,
+}
+
+impl Words {
+    // The words that this program was called with.
+    pub fn new(rt: &HostRuntime, program: &'static str) -> anyhow::Result<Words> {
+        let mut words = env::args(rt)?;
+        let _ = words.next();
+        Ok(Words {
+            program,
+            heap: rt.alloc(),
+            words,
+        })
+    }
+
+    // The next word.
+    pub fn next(&mut self) -> Option<String>
+        ensures some { OnSome result (words_left self.new + 1 ≡ words_left self.old) }
+        ensures none { IfNone result (words_left self.old ≡ 0) }
+        ensures fewer { words_left self.new ≤ words_left self.old }
+    {
+        self.words.next()
+    }
+
+    // The word after an option.
+    pub fn after(&mut self, option: &str, what: &str) -> anyhow::Result<String>
+        ensures { words_left self.new ≤ words_left self.old }
+    {
+        match self.next() {
+            Some(word) => Ok(word),
+            None => Err(self.wrong(what, option)),
+        }
+    }
+
+    // The file after an option.
+    pub fn file(&mut self, option: &str) -> anyhow::Result<String>
+        ensures { words_left self.new ≤ words_left self.old }
+    {
+        self.after(option, "a file is missing after")
+    }
+
+    // A word as a number, or what it is not.
+    pub fn number(&self, word: &str, what: &str) -> anyhow::Result<u64> {
+        word.parse().map_err(|_| self.wrong(what, word))
+    }
+
+    // An error that says what is wrong with a word.
+    pub fn wrong(&self, what: &str, word: &str) -> anyhow::Error {
+        let program = self.program;
+        match format!(in self.heap; "{what}: {word} (see {program} --help)") {
+            Ok(text) => anyhow!(text),
+            Err(e) => anyhow::Error::from(e),
+        }
+    }
+
+    // The same where no word is to blame.
+    pub fn lacks(&self, what: &str) -> anyhow::Error {
+        let program = self.program;
+        match format!(in self.heap; "{what} (see {program} --help)") {
+            Ok(text) => anyhow!(text),
+            Err(e) => anyhow::Error::from(e),
+        }
+    }
+}
