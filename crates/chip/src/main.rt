@@ -4,8 +4,10 @@
 mod options;
 
 use anyhow::anyhow;
+use command::end::run_or_help;
+use command::files::{bytes_of, save_memory};
 use cores::port::Event;
-use image::{Refusal, count_cycles, cycle_at, read_header, store};
+use image::{Header, Refusal, all_records, count_cycles, read_header};
 use options::{Options, Outside};
 use reference::script::letter_of;
 use std::fs;
@@ -32,21 +34,13 @@ Each word that a core says is printed as \"core 1 word 00000001\"; then how many
 the one that stopped it included, and \"stopped\" if all have stopped, else \"running\". What does not have its format prints its refusal,
 \"refused 2 at 0\": 1 the memory's length, 2 its front, 3 the choices; the status is then 1.";
 
-// The bytes of a file, or an error that names it.
-fn bytes_of(rt: &HostRuntime, path: &str) -> anyhow::Result<Vec<u8>> {
-    match fs::read(rt, path) {
-        Ok(bytes) => Ok(bytes),
-        Err(e) => Err(anyhow!(format!(in rt.alloc(); "cannot read {path}: {e}")?)),
-    }
-}
-
 // How many instructions each core has done.
 fn done_by(did: &[Event]) -> [u64; 4] {
     let mut done = [0u64; 4];
     for event in did {
         if let Event::Step(k) = *event {
-            if k < 4 {
-                done[k] = done[k].saturating_add(1);
+            if let Some(done) = done.get_mut(k) {
+                *done = done.saturating_add(1);
             }
         }
     }
@@ -70,10 +64,8 @@ fn print_summary(
 ) -> anyhow::Result<()> {
     let cycles = ended.cycles;
     print!(rt; "cycles {cycles} done")?;
-    for (k, done) in done_by(recorder.did.as_slice()).iter().enumerate() {
-        if k < cores {
-            print!(rt; " {done}")?;
-        }
+    for done in done_by(recorder.did.as_slice()).iter().take(cores) {
+        print!(rt; " {done}")?;
     }
     println!(rt; " {}", if ended.stopped { "stopped" } else { "running" })?;
     Ok(())
@@ -82,30 +74,16 @@ fn print_summary(
 // Writes what was done, a line for each cycle.
 fn save_events(rt: &HostRuntime, recorder: &Recorder, path: &str) -> anyhow::Result<()> {
     let mut text: Vec<u8> = Vec::new(rt.alloc());
-    let did = recorder.did.as_slice();
-    let mut at = 0;
+    let mut did = recorder.did.iter();
     for count in recorder.counts.iter() {
-        for _ in 0..*count {
-            if at < did.len() {
-                if let Some(letter) = letter_of(did[at]) {
-                    text.push(letter)?;
-                }
-                at += 1;
+        for event in did.by_ref().take(usize::from(*count)) {
+            if let Some(letter) = letter_of(*event) {
+                text.push(letter)?;
             }
         }
         text.push(b'\n')?;
     }
     fs::write(rt, path, text.as_slice())?;
-    Ok(())
-}
-
-// Writes memory out in the format that is read.
-fn save_memory(rt: &HostRuntime, cores: usize, memory: &[u32], path: &str) -> anyhow::Result<()> {
-    let mut bytes = vec![in rt.alloc(); 0u8; memory.len().saturating_mul(4).saturating_add(9)]?;
-    if store(cores, memory, bytes.as_mut_slice()).is_err() {
-        return Err(anyhow!("memory cannot be written out"));
-    }
-    fs::write(rt, path, bytes.as_slice())?;
     Ok(())
 }
 
@@ -117,48 +95,43 @@ fn first_cycles(choices: &[u8], cores: usize, most: u64) -> &[u8] {
     if cycles <= most {
         return choices;
     }
-    let mut end = 0;
-    for _ in 0..most {
-        let Some(record) = cycle_at(choices, end) else {
-            break;
-        };
-        end = record.end;
-    }
-    if end <= choices.len() {
-        &choices[0..end]
-    } else {
-        choices
-    }
+    let most = usize::try_from(most).unwrap_or(usize::MAX);
+    all_records(choices)
+        .take(most)
+        .last()
+        .map_or(choices.get(..0), |record| choices.get(..record.end))
+        .unwrap_or(choices)
 }
 
 fn refused(rt: &HostRuntime, refusal: Refusal) -> anyhow::Result<bool> {
-    println!(rt; "refused {} at {}", refusal.number(), refusal.place())?;
+    println!(rt; "{refusal}")?;
     Ok(false)
 }
 
 // Whether nothing was refused.
 fn run(rt: &HostRuntime, options: &Options) -> anyhow::Result<bool> {
     let memory = bytes_of(rt, options.memory.as_str())?;
-    let (cores, lines) = match read_header(memory.as_slice()) {
-        Ok(header) => (header.cores, header.lines),
-        Err(_) => (0, 0),
+    let choices = match &options.outside {
+        Outside::Choices(path) => bytes_of(rt, path.as_str())?,
+        Outside::Steady(_) => Vec::new(rt.alloc()),
+    };
+    let Header { cores, lines } = match read_header(memory.as_slice()) {
+        Ok(header) => header,
+        Err(refusal) => return refused(rt, refusal),
     };
     let mut board = vec![in rt.alloc(); 0u32; lines.saturating_mul(8).saturating_add(1024)]?;
     let mut chip = vec![in rt.alloc(); 0u32; 16384]?;
     let mut said = [0u32; 16];
     let mut recorder = Recorder::new(rt.alloc());
     let result = match &options.outside {
-        Outside::Choices(path) => {
-            let choices = bytes_of(rt, path.as_str())?;
-            run_choices(
-                memory.as_slice(),
-                first_cycles(choices.as_slice(), cores, options.cycles),
-                board.as_mut_slice(),
-                chip.as_mut_slice(),
-                &mut said,
-                &mut recorder,
-            )
-        }
+        Outside::Choices(_) => run_choices(
+            memory.as_slice(),
+            first_cycles(choices.as_slice(), cores, options.cycles),
+            board.as_mut_slice(),
+            chip.as_mut_slice(),
+            &mut said,
+            &mut recorder,
+        ),
         Outside::Steady(late) => run_steady(
             memory.as_slice(),
             *late,
@@ -179,25 +152,13 @@ fn run(rt: &HostRuntime, options: &Options) -> anyhow::Result<bool> {
     if let Some(path) = &options.events {
         save_events(rt, &recorder, path.as_str())?;
     }
-    if let Some(path) = &options.save {
-        if 8 * lines <= board.len() {
-            save_memory(rt, cores, &board.as_slice()[0..8 * lines], path.as_str())?;
-        }
+    if let (Some(path), Some(memory)) = (&options.save, board.get(..lines.saturating_mul(8))) {
+        save_memory(rt, cores, memory, path.as_str())?;
     }
     Ok(true)
 }
 
 fn main(rt: HostRuntime) -> anyhow::Result<ExitCode> {
-    let options = match options::read(&rt)? {
-        Some(options) => options,
-        None => {
-            println!(rt; "{HELP}")?;
-            return Ok(ExitCode::SUCCESS);
-        }
-    };
-    if run(&rt, &options)? {
-        Ok(ExitCode::SUCCESS)
-    } else {
-        Ok(ExitCode::FAILURE)
-    }
+    let options = options::read(&rt)?;
+    run_or_help(&rt, HELP, options, |options| run(&rt, options))
 }

@@ -1,7 +1,8 @@
 // The words of the command line.
-use anyhow::anyhow;
-use std::alloc::Global;
-use std::env;
+ghost use Rattle.std.specs.Prelude.{◌≤◌};
+ghost use Rattle.command.specs.CommandLine.{words_left};
+
+use command::words::{Words, is_option};
 
 // What the board does: choices from a file, or each line after so many cycles.
 #[derive(Drop)]
@@ -19,81 +20,53 @@ pub struct Options {
     pub save: Option<String>,
 }
 
-fn wrong(heap: Global, what: &str, word: &str) -> anyhow::Error {
-    match format!(in heap; "{what}: {word} (see chip --help)") {
-        Ok(text) => anyhow!(text),
-        Err(_) => anyhow!("wrong arguments (see chip --help)"),
-    }
+// The number after an option.
+fn number(words: &mut Words, option: &str) -> anyhow::Result<u64>
+    ensures { words_left words.new ≤ words_left words.old }
+{
+    let word = words.after(option, "a number is missing after")?;
+    words.number(word.as_str(), "not a number")
 }
 
-fn number(heap: Global, word: Option<String>, option: &str) -> anyhow::Result<u64> {
-    let Some(word) = word else {
-        return Err(wrong(heap, "a number is missing after", option));
-    };
-    match word.as_str().parse::<u64>() {
-        Ok(n) => Ok(n),
-        Err(_) => Err(wrong(heap, "not a number", word.as_str())),
-    }
-}
-
-fn late(heap: Global, word: Option<String>) -> anyhow::Result<u32> {
-    match u32::try_from(number(heap, word, "--steady")?) {
-        Ok(n) => Ok(n),
-        Err(_) => Err(wrong(heap, "too large a number after", "--steady")),
-    }
-}
-
-fn file(heap: Global, word: Option<String>, option: &str) -> anyhow::Result<Option<String>> {
-    if word.is_none() {
-        return Err(wrong(heap, "a file is missing after", option));
-    }
-    Ok(word)
+// The cycles after `--steady`.
+fn late(words: &mut Words) -> anyhow::Result<u32>
+    ensures { words_left words.new ≤ words_left words.old }
+{
+    let late = number(words, "--steady")?;
+    u32::try_from(late).map_err(|_| words.wrong("too large a number after", "--steady"))
 }
 
 // What the words ask for; none where they ask for help.
 pub(crate) fn read(rt: &HostRuntime) -> anyhow::Result<Option<Options>> {
-    let heap = rt.alloc();
     let mut memory: Option<String> = None;
     let mut outside: Option<Outside> = None;
     let mut cycles: u64 = 1 << 32;
     let mut events: Option<String> = None;
     let mut save: Option<String> = None;
-    let mut words = env::args(rt)?;
-    let _ = words.next();
-    for _ in 0..u64::MAX {
-        let Some(word) = words.next() else {
-            break;
-        };
+    let mut words = Words::new(rt, "chip")?;
+    while let Some(word) = words.next() {
         match word.as_str() {
             "--help" => return Ok(None),
             "--steady" => {
                 if outside.is_some() {
-                    return Err(wrong(heap, "choices are given already before", "--steady"));
+                    return Err(words.wrong("choices are given already before", "--steady"));
                 }
-                outside = Some(Outside::Steady(late(heap, words.next())?));
+                outside = Some(Outside::Steady(late(&mut words)?));
             }
-            "--cycles" => cycles = number(heap, words.next(), "--cycles")?,
-            "--events" => events = file(heap, words.next(), "--events")?,
-            "--memory" => save = file(heap, words.next(), "--memory")?,
-            other => {
-                if other.as_bytes().first() == Some(&b'-') {
-                    return Err(wrong(heap, "no such option", other));
-                }
-                if memory.is_none() {
-                    memory = Some(word);
-                } else if outside.is_none() {
-                    outside = Some(Outside::Choices(word));
-                } else {
-                    return Err(wrong(heap, "one file too many", other));
-                }
-            }
+            "--cycles" => cycles = number(&mut words, "--cycles")?,
+            "--events" => events = Some(words.file("--events")?),
+            "--memory" => save = Some(words.file("--memory")?),
+            other if is_option(other) => return Err(words.wrong("no such option", other)),
+            _ if memory.is_none() => memory = Some(word),
+            _ if outside.is_none() => outside = Some(Outside::Choices(word)),
+            other => return Err(words.wrong("one file too many", other)),
         }
     }
     let Some(memory) = memory else {
-        return Err(anyhow!("a memory is missing (see chip --help)"));
+        return Err(words.lacks("a memory is missing"));
     };
     let Some(outside) = outside else {
-        return Err(anyhow!("choices, or --steady L, are missing (see chip --help)"));
+        return Err(words.lacks("choices, or --steady L, are missing"));
     };
     Ok(Some(Options {
         memory,

@@ -38,19 +38,15 @@ fn on_chip(
         &mut words,
         &mut recorder,
     );
-    match result {
-        Ok(ended) => {
-            if !ended.stopped {
-                return Ok(None);
-            }
-        }
-        Err(_) => return Ok(None),
+    if !result.is_ok_and(|ended| ended.stopped) {
+        return Ok(None);
     }
-    let mut said = Vec::new(rt.alloc());
-    for word in recorder.said.iter() {
-        said.push(word.word)?;
-    }
-    said.as_mut_slice().sort(rt.alloc())?;
+    let mut said: Vec<u32> = recorder
+        .said
+        .iter()
+        .map(|said| said.word)
+        .collect(rt.alloc())?;
+    said.sort()?;
     board.truncate(lines.saturating_mul(8));
     Ok(Some((
         After {
@@ -80,13 +76,14 @@ fn on_machines(rt: &HostRuntime, image: &[u8], events: &[Event]) -> anyhow::Resu
     {
         return Ok(None);
     }
-    let mut said = Vec::new(rt.alloc());
-    for outcome in outcomes.iter() {
-        if let Outcome::Said { word, .. } = *outcome {
-            said.push(word)?;
-        }
-    }
-    said.as_mut_slice().sort(rt.alloc())?;
+    let mut said: Vec<u32> = outcomes
+        .iter()
+        .filter_map(|outcome| match *outcome {
+            Outcome::Said { word, .. } => Some(word),
+            _ => None,
+        })
+        .collect(rt.alloc())?;
+    said.sort()?;
     Ok(Some(After { said, memory }))
 }
 
@@ -116,12 +113,7 @@ fn show(rt: &HostRuntime, path: &str, late: u32) -> anyhow::Result<()> {
 }
 
 fn main(rt: HostRuntime) -> anyhow::Result<()> {
-    let mut words = env::args(&rt)?;
-    let _ = words.next();
-    for _ in 0..u64::MAX {
-        let Some(path) = words.next() else {
-            break;
-        };
+    for path in env::args(&rt)?.skip(1) {
         for late in [0, 3, 100] {
             show(&rt, path.as_str(), late)?;
         }
