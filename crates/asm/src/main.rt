@@ -5,6 +5,8 @@ mod messages;
 mod options;
 
 use anyhow::anyhow;
+use command::end::run_or_help;
+use command::files::bytes_of;
 use image::store_bytes;
 use layout::{LayoutError, extent, lay_out};
 use messages::{at_fault, wanted};
@@ -33,14 +35,6 @@ What is wrong is reported as SOURCE:LINE:COLUMN: expected .., all of it; the sta
 struct Memory {
     cores: usize,
     bytes: Vec<u8>,
-}
-
-// The bytes of a file, or an error that names it.
-fn bytes_of(rt: &HostRuntime, path: &str) -> anyhow::Result<Vec<u8>> {
-    match fs::read(rt, path) {
-        Ok(bytes) => Ok(bytes),
-        Err(e) => Err(anyhow!(format!(in rt.alloc(); "cannot read {path}: {e}")?)),
-    }
 }
 
 // How many lines memory has: as many as the source says, else as many as it needs.
@@ -174,16 +168,6 @@ fn run(rt: &HostRuntime, options: &Options) -> anyhow::Result<bool> {
 }
 
 fn main(rt: HostRuntime) -> anyhow::Result<ExitCode> {
-    let options = match options::read(&rt)? {
-        Some(options) => options,
-        None => {
-            println!(rt; "{HELP}")?;
-            return Ok(ExitCode::SUCCESS);
-        }
-    };
-    if run(&rt, &options)? {
-        Ok(ExitCode::SUCCESS)
-    } else {
-        Ok(ExitCode::FAILURE)
-    }
+    let options = options::read(&rt)?;
+    run_or_help(&rt, HELP, options, |options| run(&rt, options))
 }
