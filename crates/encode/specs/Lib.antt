@@ -1,3 +1,4 @@
 -- The definitions of encoding.
 pub mod Encode
+pub mod Fields
 pub mod Laws

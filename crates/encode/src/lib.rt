@@ -2,6 +2,7 @@
 #![tactic(auto)]
 
 pub mod encoding;
+mod field;
 mod format;
 pub mod misfit;
 pub mod order;

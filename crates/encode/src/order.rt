@@ -6,7 +6,7 @@ ghost use Rattle.encode.specs.Laws.{Marked, SameAmo};
 use words::word::bits;
 
 // Whether later accesses wait for the operation, and whether it waits for earlier ones.
-#[derive(Clone, Copy)]
+#[derive(Clone, Copy, PartialEq, Eq, Debug, Default)]
 pub struct Order {
     pub acquire: bool,
     pub release: bool,
@@ -15,7 +15,7 @@ pub struct Order {
 fn with_marks(word: u32, order: Order) -> u32
     ensures { result ≡ with_order word order }
 {
-    let marks = (order.acquire as u32) * 2 + order.release as u32;
+    let marks = u32::from(order.acquire) * 2 + u32::from(order.release);
     word - (bits(word, 25, 2) << 25) + (marks << 25)
 }
 
