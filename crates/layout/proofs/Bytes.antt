@@ -1,31 +1,26 @@
--- Bytes written to memory, one at a time.
-use Rattle.std.proofs.Common.{◌≡◌, ℕ, zero, suc, ◌+◌, ◌-◌, ◌<◌, ◌≤◌, ◌≢◌, ◌⊎◌, List, [], ◌∷◌, length, get_or, take, drop, set, refl, ap, ◌∙◌, inl, inr, ⊎_elim, arith}
-use Rattle.std.proofs.lemmas.List.{at_drop_more, at_drop_all, get_or-set_other, get_or-set_same, get_or-take, length-set, length-take-le}
+-- Bytes written to memory.
+use Rattle.std.proofs.Common.{◌≡◌, ℕ, zero, suc, ◌+◌, ◌-◌, ◌<◌, ◌≤◌, ◌≢◌, ◌⊎◌, List, [], ◌∷◌, ◌++◌, length, get_or, take, drop, set, refl, sym, ap, ◌∙◌, add-one, inl, inr, ⊎_elim, arith}
+use Rattle.std.proofs.lemmas.List.{append_assoc, drop-drop, drop-set-lt, get_or-set_other, get_or-set_same, length-set, take-append-drop}
+use Rattle.std.proofs.Math.Seq.{take-suc-set}
+use borrow.Rule.Slice.PartMut.{put_mid}
 use Rattle.layout.specs.Layout.{filler, padding, written}
 
-module _ (bytes memory : List ℕ) (at j : ℕ) where
-  pub written_more : j < length bytes → written (at + j) (drop j bytes) memory ≡ written (at + (j + 1)) (drop (j + 1) bytes) (set memory (at + j) (get_or bytes j 0))
-  unfolding written
-  written_more h =
-      let e : at + j + 1 ≡ at + (j + 1) = omega arith in
-      at_drop_more (λ (bs : List ℕ). written (at + j) bs memory) bytes j 0 h ∙ ap (λ (a : ℕ). written a (drop (j + 1) bytes) (set memory (at + j) (get_or bytes j 0))) e
-
-  pub written_none : length bytes ≤ j → written (at + j) (drop j bytes) memory ≡ memory
-  unfolding written
-  written_none h = at_drop_all (λ (bs : List ℕ). written (at + j) bs memory) bytes j h
-
--- the first n bytes of a list
-pub taken_more : (bytes memory : List ℕ) (at j n : ℕ) → j < n → n ≤ length bytes →
-    written (at + j) (drop j (take n bytes)) memory ≡ written (at + (j + 1)) (drop (j + 1) (take n bytes)) (set memory (at + j) (get_or bytes j 0))
-taken_more bytes memory at j n h l =
-    let long : length (take n bytes) ≡ n = length-take-le n bytes l in
-    let e : get_or (take n bytes) j 0 ≡ get_or bytes j 0 = get_or-take n bytes j 0 h in
-    rw e at (written_more (take n bytes) memory at j (omega arith))
-
-pub taken_none : (bytes memory : List ℕ) (at j n : ℕ) → n ≤ j → n ≤ length bytes → written (at + j) (drop j (take n bytes)) memory ≡ memory
-taken_none bytes memory at j n h l =
-    let long : length (take n bytes) ≡ n = length-take-le n bytes l in
-    written_none (take n bytes) memory at j (omega arith)
+-- bytes written from an address on are a part written over
+pub written_part : (bytes memory : List ℕ) (at k : ℕ) → k ≡ length bytes → at + length bytes ≤ length memory → put_mid at k memory bytes ≡ written at bytes memory
+unfolding written
+written_part [] memory at k e h = ap (λ (n : ℕ). take at memory ++ drop n (drop at memory)) e ∙ take-append-drop at memory
+written_part (b ∷ bytes) memory at k e h =
+    let n : ℕ = length bytes in
+    let after : List ℕ = set memory at b in
+    let tail : List ℕ = drop n (drop (at + 1) after) in
+    let lt : at < length memory = omega arith in
+    let front : take (at + 1) after ≡ take at memory ++ (b ∷ []) = rw add-one (take-suc-set memory at b lt) in
+    let on : at + k ≡ at + 1 + n = omega arith in
+    let rest : drop k (drop at memory) ≡ tail
+    = drop-drop k at memory ∙ ap (λ (m : ℕ). drop m memory) on ∙ sym (drop-set-lt (at + 1 + n) memory at b (omega arith)) ∙ sym (drop-drop n (at + 1) after) in
+    let long = length-set memory at b in
+    ap (λ (r : List ℕ). take at memory ++ (b ∷ (bytes ++ r))) rest ∙ sym (append_assoc (take at memory) (b ∷ []) (bytes ++ tail))
+    ∙ ap (λ (f : List ℕ). f ++ (bytes ++ tail)) (sym front) ∙ written_part bytes after (at + 1) n refl (omega arith)
 
 pub padding_more : (memory : List ℕ) (at to : ℕ) → at < to →
     written at (padding at (to - at)) memory ≡ written (at + 1) (padding (at + 1) (to - (at + 1))) (set memory at (filler at))

@@ -2,20 +2,12 @@
 use Rattle.std.proofs.Common.{◌≡◌, ℕ, ◌+◌, ◌<◌, ◌≤◌, List, [], ◌++◌, length, get_or, drop, Option, sym, ap, ◌∙◌}
 use Rattle.std.proofs.lemmas.List.{append_assoc, append-nil, at_drop_more, at_drop_all}
 use Rattle.std.specs.Result.{result_err}
-use Rattle.layout.specs.Layout.{bytes_in, end, fault_at, faults_from, laid_from, named, next, outcome, values_from, written}
+use Rattle.layout.specs.Layout.{bytes_in, fault_at, faults_from, laid_from, named, next, outcome, values_from, written}
 use Rattle.layout.specs.declared.fault.Fault.{Fault}
 use Rattle.layout.specs.declared.fault.Located.{Located}
 use Rattle.layout.specs.declared.statement.Statement.{Statement}
 
 module _ (size : ℕ) (statements : List Statement) (i here : ℕ) where
-  pub end_more : (d : Statement) → i < length statements → end size here (drop i statements) ≡ end size (next size here (get_or statements i d)) (drop (i + 1) statements)
-  unfolding end
-  end_more d h = at_drop_more (end size here) statements i d h
-
-  pub end_none : length statements ≤ i → end size here (drop i statements) ≡ here
-  unfolding end
-  end_none h = at_drop_all (end size here) statements i h
-
   module _ (values : List ℕ) where
     pub values_more : (d : Statement) → i < length statements →
         values_from size here (drop i statements) values ≡ values_from size (next size here (get_or statements i d)) (drop (i + 1) statements) (named here (get_or statements i d) values)

@@ -7,7 +7,6 @@ use Rattle.encode.specs.Encode.{encode}
 use Rattle.encode.specs.declared.order.Order.{Order}
 use Rattle.layout.specs.Laws.{bytes_at, Labels, Laid_out, Meets, place, word_at}
 use Rattle.layout.specs.Layout.{end, faults_from, faults_of, laid, laid_from, marked, next, outcome, values_from, values_of, with_operand, word_bytes}
-use Rattle.layout.specs.declared.fault.Located.{Located}
 use Rattle.layout.specs.declared.statement.Operand.{Operand}
 use Rattle.layout.specs.declared.statement.Statement.{Statement}
 use Rattle.layout.specs.declared.statement.Statement.TheVariants.{Code}
@@ -79,12 +78,3 @@ laid_out size symbols statements memory e none =
       meets = rw e (meets size (values_of size symbols statements) statements none);
       labels = labels size symbols statements;
     }
-
--- what the code finds and writes
-pub all_laid : (size symbols : ℕ) (statements : List Statement) (values zeros memory : List ℕ) (faults : List Located) →
-    values ≡ values_of size symbols statements → zeros ≡ replicate size 0 → memory ≡ laid_from size values 0 statements zeros → faults ≡ faults_from size values 0 0 statements → faults ≡ [] →
-    (memory ≡ laid size symbols statements) × Laid_out size symbols statements memory
-all_laid size symbols statements values zeros memory faults v z m f none =
-    let e : memory ≡ laid size symbols statements = rw (← v, ← z) m in
-    let g : faults_of size symbols statements ≡ [] = rw (← v) (sym f ∙ none) in
-    (e, laid_out size symbols statements memory e g)

@@ -1,6 +1,7 @@
 -- Statements laid out in memory: where each stands, the labels' values, the bytes of each, and what is wrong with one.
 -- Assumes nothing: these are definitions.
 use Rattle.std.specs.Prelude.{ℕ, zero, suc, ◌+◌, ◌-◌, ◌*◌, ◌/◌, ◌%◌, ◌^◌, Bool, true, cond, ◌||◌, List, [], ◌∷◌, ◌++◌, take, replicate, Some, None, Ok, Err, Option, Result, ◌==◌, nat_le, nat_lt, slice_index, slice_set}
+use Rattle.std.specs.List.{fold}
 use Rattle.std.specs.Result.{result_err}
 use Rattle.words.specs.Word.{extend}
 use Rattle.rv32.specs.Arithmetic.{add, sub}
@@ -55,8 +56,7 @@ next size here s = reached here (placed size here s)
 
 -- the address after the last statement
 unfoldable pub end : ℕ → ℕ → List Statement → ℕ
-end size here [] = here
-end size here (s ∷ rest) = end size (next size here s) rest
+end size here statements = fold (next size) here statements
 
 -- 2. What operands come to. The labels' values are a list, by symbol; a symbol without a label has 0.
 

@@ -2,9 +2,8 @@
 -- Assumes nothing: these are definitions.
 use Rattle.std.specs.Prelude.{ℕ, List, take, Ok, Err, Result}
 use Rattle.layout.specs.declared.fault.Fault.{Fault}
-use Rattle.layout.specs.declared.piece.Piece.{Piece}
 
--- the bytes of a piece
-abbrev pub listed : Result Piece Fault → Result (List ℕ) Fault
-listed (Ok p) = Ok (take p.count p.bytes)
-listed (Err fault) = Err fault
+-- the first of the bytes that are given
+abbrev pub first_bytes : ℕ → Result (List ℕ) Fault → Result (List ℕ) Fault
+first_bytes n (Ok bytes) = Ok (take n bytes)
+first_bytes n (Err fault) = Err fault

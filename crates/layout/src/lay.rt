@@ -37,16 +37,13 @@ fn find_values(
 }
 
 // One fault more, if there is one.
-fn note(faults: &mut Vec<Located>, index: usize, res: Result<(), Fault>) -> Result<(), AllocError>
-    ensures { OnOk result (faults.new.items ≡ faults.old.items ++ fault_at index (result_err res)) }
+fn note(faults: &mut Vec<Located>, index: usize, fault: Option<Fault>) -> Result<(), AllocError>
+    ensures { OnOk result (faults.new.items ≡ faults.old.items ++ fault_at index fault) }
 {
-    match res {
-        Ok(()) => Ok(()),
-        Err(fault) => {
-            faults.push(Located { index, fault })?;
-            Ok(())
-        }
+    if let Some(fault) = fault {
+        faults.push(Located { index, fault })?;
     }
+    Ok(())
 }
 
 // Writes all statements, and gives all that is wrong with them.
@@ -63,11 +60,10 @@ fn write_all(
 {
     let mut faults = Vec::new(heap);
     let mut here = 0;
-    for index in 0..statements.len() {
-        let statement = statements[index];
-        let result = write(memory, size, values, here, statement);
-        note(&mut faults, index, result)?;
-        here = next(size, here, statement);
+    for (index, statement) in statements.iter().enumerate() {
+        let fault = write(memory, size, values, here, *statement).err();
+        note(&mut faults, index, fault)?;
+        here = next(size, here, *statement);
     }
     Ok(faults)
 }
@@ -84,25 +80,19 @@ pub fn lay_out(
     ensures meets { IfOk result (λ v. Laid_out (size_of lines) symbols statements.now v.items) }
     ensures why { IfErr result (λ e. Because lines symbols statements.now e) }
 {
-    if lines < 1 || lines > 65536 {
+    if !(1..=65536).contains(&lines) {
         return Err(LayoutError::NoSuchSize);
     }
     let size = 32 * lines;
-    let Ok(values) = find_values(heap, statements, symbols, size) else {
-        return Err(LayoutError::OutOfMemory);
-    };
-    let Ok(mut memory) = vec![in heap; 0u8; size as usize] else {
-        return Err(LayoutError::OutOfMemory);
-    };
-    let Ok(faults) = write_all(
+    let values = find_values(heap, statements, symbols, size)?;
+    let mut memory = vec![in heap; 0u8; size as usize]?;
+    let faults = write_all(
         heap,
         memory.as_mut_slice(),
         statements,
         values.as_slice(),
         size,
-    ) else {
-        return Err(LayoutError::OutOfMemory);
-    };
+    )?;
     if faults.is_empty() {
         Ok(memory)
     } else {

@@ -2,22 +2,15 @@
 ghost use Rattle.std.specs.Prelude.{◌≡◌, ◌+◌, ◌-◌, ◌≤◌, length, take, IfOk};
 ghost use Rattle.std.specs.Result.{result_err};
 ghost use Rattle.layout.specs.Layout.{bytes_in, code, count, filler, marked, narrow, outcome, padding, stored, written};
-ghost use Rattle.layout.specs.Pieces.{listed};
+ghost use Rattle.layout.specs.Pieces.{first_bytes};
 
 use crate::fault::Fault;
 use crate::place::placed;
 use crate::statement::{Statement, Width};
-use crate::value::{value, with_operand};
+use crate::value::Place;
 use encode::encoding::encoded;
 use encode::order::{Order, ordered};
 use rv32::instruction::Instruction;
-
-// The first `count` of four bytes.
-#[derive(Clone, Copy)]
-struct Piece {
-    bytes: [u8; 4],
-    count: usize,
-}
 
 // An AMO's word has the marks of its order.
 fn marked(instruction: Instruction, order: Order, word: u32) -> u32
@@ -29,17 +22,11 @@ fn marked(instruction: Instruction, order: Order, word: u32) -> u32
     }
 }
 
-fn code(instruction: Instruction, order: Order) -> Result<Piece, Fault>
-    ensures value { listed result ≡ code instruction order }
-    ensures long { IfOk result (λ p. p.count ≡ 4) }
+fn code(instruction: Instruction, order: Order) -> Result<[u8; 4], Fault>
+    ensures { result ≡ code instruction order }
 {
-    match encoded(instruction) {
-        Ok(word) => Ok(Piece {
-            bytes: marked(instruction, order, word).to_le_bytes(),
-            count: 4,
-        }),
-        Err(misfit) => Err(Fault::NoWord(misfit)),
-    }
+    let word = encoded(instruction)?;
+    Ok(marked(instruction, order, word).to_le_bytes())
 }
 
 impl Width {
@@ -55,43 +42,23 @@ impl Width {
     }
 }
 
-fn stored(width: Width, x: u32) -> Result<Piece, Fault>
-    ensures value { listed result ≡ stored width x }
-    ensures long { IfOk result (λ p. p.count ≡ count width) }
+// A word's bytes, of which the width takes the first ones.
+fn stored(width: Width, x: u32) -> Result<[u8; 4], Fault>
+    ensures { first_bytes (count width) result ≡ stored width x }
 {
-    if !width.holds(x) {
-        return Err(Fault::TooWide);
-    }
-    Ok(Piece {
-        bytes: x.to_le_bytes(),
-        count: width.count(),
-    })
-}
-
-impl Piece {
-    fn write(self, memory: &mut [u8], at: usize)
-        requires { (self.count ≤ 4) × (at + self.count ≤ length memory.old) }
-        ensures { memory.new ≡ written at (take self.count self.bytes) memory.old }
-    {
-        for j in 0..self.count {
-            memory[at + j] = self.bytes[j];
-        }
+    if width.holds(x) {
+        Ok(x.to_le_bytes())
+    } else {
+        Err(Fault::TooWide)
     }
 }
 
-// Writes a piece, unless there is a fault.
-fn put(memory: &mut [u8], at: usize, piece: Result<Piece, Fault>) -> Result<(), Fault>
-    requires { IfOk piece (λ p. (p.count ≤ 4) × (at + p.count ≤ length memory.old)) }
-    ensures value { result_err result ≡ result_err (listed piece) }
-    ensures after { memory.new ≡ written at (bytes_in (listed piece)) memory.old }
+// Writes bytes from an address on.
+fn put(memory: &mut [u8], at: usize, bytes: &[u8])
+    requires { at + length bytes.now ≤ length memory.old }
+    ensures { memory.new ≡ written at bytes.now memory.old }
 {
-    match piece {
-        Ok(p) => {
-            p.write(memory, at);
-            Ok(())
-        }
-        Err(fault) => Err(fault),
-    }
+    memory[at..at + bytes.len()].copy_from_slice(bytes);
 }
 
 // The byte that lies between statements at an address: each whole word of them is a NOP.
@@ -105,12 +72,14 @@ fn pad(memory: &mut [u8], from: usize, to: usize)
     requires { (from ≤ to) × (to ≤ length memory.old) }
     ensures { memory.new ≡ written from (padding from (to - from)) memory.old }
 {
+    // a byte follows from its address, so no plainer by `iter_mut`
     for at in from..to {
         memory[at] = filler(at);
     }
 }
 
 // Writes a statement's bytes to where it stands, if it has no fault.
+#[tactic(auto, unfolding(crate::specs::Layout::written))]
 pub(crate) fn write(
     memory: &mut [u8],
     size: u32,
@@ -122,13 +91,11 @@ pub(crate) fn write(
     ensures value { result_err result ≡ result_err (outcome size values.now here statement) }
     ensures after { memory.new ≡ written here (bytes_in (outcome size values.now here statement)) memory.old }
 {
-    let end = match placed(size, here, statement) {
-        Ok(end) => end,
-        Err(fault) => return Err(fault),
-    };
+    let end = placed(size, here, statement)?;
     let at = here as usize;
+    let place = Place { values, here };
     match statement {
-        Statement::Label { .. } | Statement::Origin { .. } => Ok(()),
+        Statement::Label { .. } | Statement::Origin { .. } => {}
         Statement::Code {
             instruction,
             order,
@@ -136,16 +103,14 @@ pub(crate) fn write(
         } => put(
             memory,
             at,
-            code(with_operand(values, here, instruction, operand), order),
+            &code(place.with_operand(instruction, operand), order)?,
         ),
         Statement::Data { width, operand } => put(
             memory,
             at,
-            stored(width, value(values, here, operand)),
+            &stored(width, place.value(operand))?[..width.count()],
         ),
-        Statement::Align { .. } => {
-            pad(memory, at, end as usize);
-            Ok(())
-        }
+        Statement::Align { .. } => pad(memory, at, end as usize),
     }
+    Ok(())
 }

@@ -76,10 +76,16 @@ pub(crate) fn next(size: u32, here: u32, statement: Statement) -> u32
     ensures value { result ≡ next size here statement }
     ensures inside { here ≤ size → result ≤ size }
 {
-    match placed(size, here, statement) {
-        Ok(address) => address,
-        Err(_) => here,
-    }
+    placed(size, here, statement).unwrap_or(here)
+}
+
+#[tactic(auto, unfolding(crate::specs::Layout::end))]
+fn end(statements: &[Statement], size: u32) -> u32
+    ensures { result ≡ end size 0 statements.now }
+{
+    statements
+        .iter()
+        .fold(0, |here, statement| next(size, here, *statement))
 }
 
 // The address after the last statement, in a memory of so many bytes; a smaller memory that goes so far is enough.
@@ -87,9 +93,5 @@ pub fn extent(statements: &[Statement], size: u32) -> u32
     ensures value { result ≡ end size 0 statements.now }
     ensures enough { Enough size statements.now result }
 {
-    let mut here = 0;
-    for statement in statements {
-        here = next(size, here, *statement);
-    }
-    here
+    end(statements, size)
 }

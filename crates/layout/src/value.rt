@@ -10,29 +10,55 @@ use words::word::sign_extended;
 pub(crate) fn name(values: &mut [u32], here: u32, statement: Statement)
     ensures { values.new ≡ named here statement values.old }
 {
-    if let Statement::Label { symbol } = statement {
-        if symbol < values.len() {
-            values[symbol] = here;
+    match statement {
+        // not by `get_mut`: a proof would know no value afterwards
+        Statement::Label { symbol } if symbol < values.len() => values[symbol] = here,
+        _ => {}
+    }
+}
+
+// What the value of an operand depends on: the labels' values, and where its statement stands.
+#[derive(Clone, Copy)]
+pub(crate) struct Place<'a> {
+    pub(crate) values: &'a [u32],
+    pub(crate) here: u32,
+}
+
+impl Place<'_> {
+    // A label's value; 0 for none.
+    fn label(self, symbol: Option<usize>) -> u32
+        ensures { result ≡ label_value self.entry.values.now symbol }
+    {
+        symbol.map_or(0, |k| self.values.get(k).copied().unwrap_or(0))
+    }
+
+    fn sum(self, terms: Sum) -> u32
+        ensures { result ≡ sum_of self.entry.values.now terms }
+    {
+        self.label(terms.plus)
+            .wrapping_sub(self.label(terms.minus))
+            .wrapping_add(terms.number)
+    }
+
+    pub(crate) fn value(self, operand: Operand) -> u32
+        ensures { result ≡ value_of self.entry.values.now self.entry.here operand }
+    {
+        part_of(operand.part, self.here, self.sum(operand.sum))
+    }
+
+    // The instruction with its operand's value, if it has an operand.
+    pub(crate) fn with_operand(
+        self,
+        instruction: Instruction,
+        operand: Option<Operand>,
+    ) -> Instruction
+        ensures { result ≡ with_operand self.entry.values.now self.entry.here instruction operand }
+    {
+        match operand {
+            Some(o) => filled(instruction, self.value(o)),
+            None => instruction,
         }
     }
-}
-
-// A label's value; 0 for none.
-fn label(values: &[u32], symbol: Option<usize>) -> u32
-    ensures { result ≡ label_value values.now symbol }
-{
-    match symbol {
-        Some(k) => { if k < values.len() { values[k] } else { 0 } }
-        None => 0,
-    }
-}
-
-fn add_up(values: &[u32], terms: Sum) -> u32
-    ensures { result ≡ sum_of values.now terms }
-{
-    label(values, terms.plus)
-        .wrapping_sub(label(values, terms.minus))
-        .wrapping_add(terms.number)
 }
 
 // What goes with the low 12 bits.
@@ -54,13 +80,6 @@ fn part_of(part: Part, here: u32, x: u32) -> u32
         Part::RelativeHigh => high(x.wrapping_sub(here)),
         Part::RelativeLow => sign_extended(x.wrapping_sub(here.wrapping_sub(4)), 12),
     }
-}
-
-// The value of an operand of a statement that stands here.
-pub(crate) fn value(values: &[u32], here: u32, operand: Operand) -> u32
-    ensures { result ≡ value_of values.now here operand }
-{
-    part_of(operand.part, here, add_up(values, operand.sum))
 }
 
 // The instruction with another immediate, if it has one.
@@ -108,20 +127,5 @@ fn filled(instruction: Instruction, x: u32) -> Instruction
         | Instruction::Ebreak
         | Instruction::Mret
         | Instruction::Illegal => instruction,
-    }
-}
-
-// The instruction with its operand's value, if it has an operand.
-pub(crate) fn with_operand(
-    values: &[u32],
-    here: u32,
-    instruction: Instruction,
-    operand: Option<Operand>,
-) -> Instruction
-    ensures { result ≡ with_operand values.now here instruction operand }
-{
-    match operand {
-        Some(o) => filled(instruction, value(values, here, o)),
-        None => instruction,
     }
 }

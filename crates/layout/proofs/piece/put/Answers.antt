@@ -1,8 +1,7 @@
--- A fault writes nothing.
-use Rattle.std.proofs.Common.{rules}
-use Rattle.layout.specs.Layout.{written}
+-- The bytes are a part of memory.
+use Rattle.std.proofs.Common.{arith}
+use Rattle.layout.proofs.Bytes.{written_part}
 use Rattle.layout.proofs.piece.put.Goals as goal
 
-pub returns-in-Err : goal.returns-in-Err
-unfolding written
-returns-in-Err c = search rules
+pub returns : goal.returns
+returns c = rw c.copy_from_slice.ensures.after (written_part c.args.bytes.now c.args.memory.now c.args.at _ (omega arith) c.requires)
