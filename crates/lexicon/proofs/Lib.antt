@@ -1,2 +1,2 @@
 -- The lemmas of the words of a source.
-mod Digits
+pub mod Rows

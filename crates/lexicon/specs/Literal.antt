@@ -1,29 +1,29 @@
 -- Numbers as they are written in a source, and the two parts of a number that LUI and ADDI load.
 -- Assumes nothing: these are definitions.
-use Rattle.std.specs.Prelude.{◌≡◌, ℕ, ◌+◌, ◌-◌, ◌*◌, ◌%◌, ◌^◌, Bool, cond, ◌&&◌, ◌||◌, List, [], ◌∷◌, length, drop, Some, None, Option, ◌==◌, nat_le, nat_lt, slice_index}
+use Rattle.std.specs.Prelude.{◌≡◌, ℕ, ◌+◌, ◌-◌, ◌*◌, ◌%◌, ◌^◌, Bool, cond, ◌&&◌, ◌||◌, List, length, drop, Some, None, Option, ◌==◌, nat_le, nat_lt, slice_index}
+use Rattle.std.specs.List.{fold}
 use Rattle.words.specs.Word.{extend}
 
 -- x lies from a to b
 abbrev pub between : ℕ → ℕ → ℕ → Bool
 between a b x = nat_le a x && nat_le x b
 
--- the value of a byte as a digit: 0 to 9, a to f, A to F; 36 for any other
-abbrev pub digit : ℕ → ℕ
-digit b = cond (between 48 57 b) (b - 48) (cond (between 97 102 b) (b - 97 + 10) (cond (between 65 70 b) (b - 65 + 10) 36))
+-- the value of a byte as a digit: 0 to 9, a to f, A to F
+abbrev pub digit : ℕ → Option ℕ
+digit b = cond (between 48 57 b) (Some (b - 48)) (cond (between 97 102 b) (Some (b - 97 + 10)) (cond (between 65 70 b) (Some (b - 65 + 10)) None))
 
--- a number with one digit more, to a base; none past 32 bits, or where the byte is no digit of it
+-- a number and one digit more, to a base; none past 32 bits, or where the digit is none of the base
+abbrev pub joined : ℕ → ℕ → Option ℕ → Option ℕ
+joined base sum None = None
+joined base sum (Some d) = cond (nat_lt d base && nat_lt (sum * base + d) (2 ^ 32)) (Some (sum * base + d)) None
+
 abbrev pub with_digit : ℕ → Option ℕ → ℕ → Option ℕ
 with_digit base None b = None
-with_digit base (Some sum) b = cond (nat_lt (digit b) base && nat_lt (sum * base + digit b) (2 ^ 32)) (Some (sum * base + digit b)) None
+with_digit base (Some sum) b = joined base sum (digit b)
 
--- a number with more digits, high digit first
-abbrev pub with_digits : ℕ → Option ℕ → List ℕ → Option ℕ
-with_digits base sum [] = sum
-with_digits base sum (b ∷ bs) = with_digits base (with_digit base sum b) bs
-
--- the number that digits to a base are; none where there is no digit
+-- the number that digits to a base are, high digit first; none where there is no digit
 abbrev pub digits : ℕ → List ℕ → Option ℕ
-digits base bs = cond (length bs == 0) None (with_digits base (Some 0) bs)
+digits base bs = cond (length bs == 0) None (fold (with_digit base) (Some 0) bs)
 
 -- a text begins with 0x or 0X
 abbrev pub hexadecimal : List ℕ → Bool

@@ -1,65 +1,37 @@
 // Numbers as they are written, and the two parts of a number that two instructions load.
-ghost use Rattle.std.specs.Prelude.{◌≡◌, Some};
-ghost use Rattle.lexicon.specs.Literal.{Splits, digit, digits, hexadecimal, number_of, with_digit, with_digits};
+ghost use Rattle.std.specs.Prelude.{◌≡◌, ◌≤◌};
+ghost use Rattle.lexicon.specs.Literal.{Splits, digits, number_of, with_digit};
 
-// The value of a byte as a digit; 36 where it is none.
-fn digit_of(byte: u8) -> u32
-    ensures { result ≡ digit byte }
-{
-    match byte {
-        b'0'..=b'9' => (byte - b'0') as u32,
-        b'a'..=b'f' => (byte - b'a') as u32 + 10,
-        b'A'..=b'F' => (byte - b'A') as u32 + 10,
-        _ => 36,
-    }
-}
+use words::word::sign_extended;
 
 // A number with one digit more, to a base; none where the byte is no digit of it, or the number takes more than 32 bits.
 fn with_digit(number: Option<u32>, byte: u8, base: u32) -> Option<u32>
+    requires { (2 ≤ base) × (base ≤ 16) }
     ensures { result ≡ with_digit base number byte }
 {
-    let digit = digit_of(byte);
-    if digit >= base {
-        return None;
-    }
+    let digit = char::from(byte).to_digit(base)?;
     number?.checked_mul(base)?.checked_add(digit)
 }
 
 // The number that digits to a base are.
-fn with_digits(text: &[u8], base: u32) -> Option<u32>
-    ensures { result ≡ with_digits base (Some 0) text.now }
-{
-    let mut number = Some(0);
-    for byte in text {
-        number = with_digit(number, *byte, base);
-    }
-    number
-}
-
 fn in_base(text: &[u8], base: u32) -> Option<u32>
+    requires { (2 ≤ base) × (base ≤ 16) }
     ensures { result ≡ digits base text.now }
 {
     if text.is_empty() {
         return None;
     }
-    with_digits(text, base)
-}
-
-// Whether a text begins with 0x or 0X.
-fn is_hexadecimal(text: &[u8]) -> bool
-    ensures { result ≡ hexadecimal text.now }
-{
-    text.len() >= 2 && text[0] == b'0' && (text[1] == b'x' || text[1] == b'X')
+    text.iter()
+        .fold(Some(0), |number, byte| with_digit(number, *byte, base))
 }
 
 // The number that a text is: decimal digits, or 0x and hexadecimal digits. None where it is neither, or takes more than 32 bits.
 pub fn number(text: &[u8]) -> Option<u32>
     ensures { result ≡ number_of text.now }
 {
-    if is_hexadecimal(text) && text.len() >= 2 {
-        in_base(&text[2..], 16)
-    } else {
-        in_base(text, 10)
+    match text {
+        [b'0', b'x' | b'X', digits @ ..] => in_base(digits, 16),
+        _ => in_base(text, 10),
     }
 }
 
@@ -67,7 +39,6 @@ pub fn number(text: &[u8]) -> Option<u32>
 pub fn split(value: u32) -> (u32, u32)
     ensures { Splits value result.0 result.1 }
 {
-    let low = value % 4096;
-    let low = if low < 2048 { low } else { low + 0xffff_f000 };
+    let low = sign_extended(value % 4096, 12);
     (value.wrapping_sub(low), low)
 }

@@ -1,8 +1,13 @@
 // What each mnemonic and directive is, and which operands follow it.
+ghost use Rattle.std.specs.Prelude.{◌≡◌, find, IsTrue, map, option_map};
+ghost use Rattle.std.specs.Str.{bytes_eq};
+ghost use Rattle.lexicon.specs.Rows.{are_distinct, first_entry};
+
+use encode::order::Order;
 use layout::statement::Width;
 use rv32::instruction::*;
 
-// The marks of an AMO, and how the operands of a line are read.
+// How the operands of a line are read, and what of the instruction is known already.
 #[derive(Clone, Copy)]
 pub enum Form {
     // rd, a number of 20 bits or %hi
@@ -28,8 +33,8 @@ pub enum Form {
     Immediate(Operation),
     // rd, rs1, rs2
     Registers(Operation),
-    // rd, rs2, (rs1); marked to acquire, and to release
-    Amo(AmoKind, bool, bool),
+    // rd, rs2, (rs1)
+    Amo(AmoKind, Order),
     // no operand
     Alone(Instruction),
     // rd, a register that stands on the left of this operation with this number
@@ -60,362 +65,142 @@ pub enum Form {
     Lines,
 }
 
-#[derive(Clone, Copy)]
-struct Entry {
-    name: &'static str,
-    form: Form,
-}
+const PLAIN: Order = Order {
+    acquire: false,
+    release: false,
+};
 
-const TABLE: [Entry; 83] = [
-    Entry {
-        name: "lui",
-        form: Form::Lui,
-    },
-    Entry {
-        name: "auipc",
-        form: Form::Auipc,
-    },
-    Entry {
-        name: "jal",
-        form: Form::Jal,
-    },
-    Entry {
-        name: "jalr",
-        form: Form::Jalr,
-    },
-    Entry {
-        name: "beq",
-        form: Form::Branch(BranchKind::Beq),
-    },
-    Entry {
-        name: "bne",
-        form: Form::Branch(BranchKind::Bne),
-    },
-    Entry {
-        name: "blt",
-        form: Form::Branch(BranchKind::Blt),
-    },
-    Entry {
-        name: "bge",
-        form: Form::Branch(BranchKind::Bge),
-    },
-    Entry {
-        name: "bltu",
-        form: Form::Branch(BranchKind::Bltu),
-    },
-    Entry {
-        name: "bgeu",
-        form: Form::Branch(BranchKind::Bgeu),
-    },
-    Entry {
-        name: "bgt",
-        form: Form::BranchSwapped(BranchKind::Blt),
-    },
-    Entry {
-        name: "ble",
-        form: Form::BranchSwapped(BranchKind::Bge),
-    },
-    Entry {
-        name: "bgtu",
-        form: Form::BranchSwapped(BranchKind::Bltu),
-    },
-    Entry {
-        name: "bleu",
-        form: Form::BranchSwapped(BranchKind::Bgeu),
-    },
-    Entry {
-        name: "beqz",
-        form: Form::BranchZero(BranchKind::Beq),
-    },
-    Entry {
-        name: "bnez",
-        form: Form::BranchZero(BranchKind::Bne),
-    },
-    Entry {
-        name: "bltz",
-        form: Form::BranchZero(BranchKind::Blt),
-    },
-    Entry {
-        name: "bgez",
-        form: Form::BranchZero(BranchKind::Bge),
-    },
-    Entry {
-        name: "bgtz",
-        form: Form::ZeroBranch(BranchKind::Blt),
-    },
-    Entry {
-        name: "blez",
-        form: Form::ZeroBranch(BranchKind::Bge),
-    },
-    Entry {
-        name: "lb",
-        form: Form::Load(LoadKind::Lb),
-    },
-    Entry {
-        name: "lh",
-        form: Form::Load(LoadKind::Lh),
-    },
-    Entry {
-        name: "lw",
-        form: Form::Load(LoadKind::Lw),
-    },
-    Entry {
-        name: "lbu",
-        form: Form::Load(LoadKind::Lbu),
-    },
-    Entry {
-        name: "lhu",
-        form: Form::Load(LoadKind::Lhu),
-    },
-    Entry {
-        name: "sb",
-        form: Form::Store(StoreKind::Sb),
-    },
-    Entry {
-        name: "sh",
-        form: Form::Store(StoreKind::Sh),
-    },
-    Entry {
-        name: "sw",
-        form: Form::Store(StoreKind::Sw),
-    },
-    Entry {
-        name: "addi",
-        form: Form::Immediate(Operation::Add),
-    },
-    Entry {
-        name: "slti",
-        form: Form::Immediate(Operation::Slt),
-    },
-    Entry {
-        name: "sltiu",
-        form: Form::Immediate(Operation::Sltu),
-    },
-    Entry {
-        name: "xori",
-        form: Form::Immediate(Operation::Xor),
-    },
-    Entry {
-        name: "ori",
-        form: Form::Immediate(Operation::Or),
-    },
-    Entry {
-        name: "andi",
-        form: Form::Immediate(Operation::And),
-    },
-    Entry {
-        name: "slli",
-        form: Form::Immediate(Operation::Sll),
-    },
-    Entry {
-        name: "srli",
-        form: Form::Immediate(Operation::Srl),
-    },
-    Entry {
-        name: "srai",
-        form: Form::Immediate(Operation::Sra),
-    },
-    Entry {
-        name: "add",
-        form: Form::Registers(Operation::Add),
-    },
-    Entry {
-        name: "sub",
-        form: Form::Registers(Operation::Sub),
-    },
-    Entry {
-        name: "sll",
-        form: Form::Registers(Operation::Sll),
-    },
-    Entry {
-        name: "slt",
-        form: Form::Registers(Operation::Slt),
-    },
-    Entry {
-        name: "sltu",
-        form: Form::Registers(Operation::Sltu),
-    },
-    Entry {
-        name: "xor",
-        form: Form::Registers(Operation::Xor),
-    },
-    Entry {
-        name: "srl",
-        form: Form::Registers(Operation::Srl),
-    },
-    Entry {
-        name: "sra",
-        form: Form::Registers(Operation::Sra),
-    },
-    Entry {
-        name: "or",
-        form: Form::Registers(Operation::Or),
-    },
-    Entry {
-        name: "and",
-        form: Form::Registers(Operation::And),
-    },
-    Entry {
-        name: "amoadd.w",
-        form: Form::Amo(AmoKind::AmoAdd, false, false),
-    },
-    Entry {
-        name: "amoadd.w.aq",
-        form: Form::Amo(AmoKind::AmoAdd, true, false),
-    },
-    Entry {
-        name: "amoadd.w.rl",
-        form: Form::Amo(AmoKind::AmoAdd, false, true),
-    },
-    Entry {
-        name: "amoadd.w.aqrl",
-        form: Form::Amo(AmoKind::AmoAdd, true, true),
-    },
-    Entry {
-        name: "amoswap.w",
-        form: Form::Amo(AmoKind::AmoSwap, false, false),
-    },
-    Entry {
-        name: "amoswap.w.aq",
-        form: Form::Amo(AmoKind::AmoSwap, true, false),
-    },
-    Entry {
-        name: "amoswap.w.rl",
-        form: Form::Amo(AmoKind::AmoSwap, false, true),
-    },
-    Entry {
-        name: "amoswap.w.aqrl",
-        form: Form::Amo(AmoKind::AmoSwap, true, true),
-    },
-    Entry {
-        name: "fence",
-        form: Form::Alone(Instruction::Fence),
-    },
-    Entry {
-        name: "ecall",
-        form: Form::Alone(Instruction::Ecall),
-    },
-    Entry {
-        name: "ebreak",
-        form: Form::Alone(Instruction::Ebreak),
-    },
-    Entry {
-        name: "mret",
-        form: Form::Alone(Instruction::Mret),
-    },
-    Entry {
-        name: "nop",
-        form: Form::Alone(Instruction::OpImm {
+const ACQUIRE: Order = Order {
+    acquire: true,
+    release: false,
+};
+
+const RELEASE: Order = Order {
+    acquire: false,
+    release: true,
+};
+
+const BOTH: Order = Order {
+    acquire: true,
+    release: true,
+};
+
+// Each mnemonic and directive, once.
+const TABLE: [(&str, Form); 83] = [
+    ("lui", Form::Lui),
+    ("auipc", Form::Auipc),
+    ("jal", Form::Jal),
+    ("jalr", Form::Jalr),
+    ("beq", Form::Branch(BranchKind::Beq)),
+    ("bne", Form::Branch(BranchKind::Bne)),
+    ("blt", Form::Branch(BranchKind::Blt)),
+    ("bge", Form::Branch(BranchKind::Bge)),
+    ("bltu", Form::Branch(BranchKind::Bltu)),
+    ("bgeu", Form::Branch(BranchKind::Bgeu)),
+    ("bgt", Form::BranchSwapped(BranchKind::Blt)),
+    ("ble", Form::BranchSwapped(BranchKind::Bge)),
+    ("bgtu", Form::BranchSwapped(BranchKind::Bltu)),
+    ("bleu", Form::BranchSwapped(BranchKind::Bgeu)),
+    ("beqz", Form::BranchZero(BranchKind::Beq)),
+    ("bnez", Form::BranchZero(BranchKind::Bne)),
+    ("bltz", Form::BranchZero(BranchKind::Blt)),
+    ("bgez", Form::BranchZero(BranchKind::Bge)),
+    ("bgtz", Form::ZeroBranch(BranchKind::Blt)),
+    ("blez", Form::ZeroBranch(BranchKind::Bge)),
+    ("lb", Form::Load(LoadKind::Lb)),
+    ("lh", Form::Load(LoadKind::Lh)),
+    ("lw", Form::Load(LoadKind::Lw)),
+    ("lbu", Form::Load(LoadKind::Lbu)),
+    ("lhu", Form::Load(LoadKind::Lhu)),
+    ("sb", Form::Store(StoreKind::Sb)),
+    ("sh", Form::Store(StoreKind::Sh)),
+    ("sw", Form::Store(StoreKind::Sw)),
+    ("addi", Form::Immediate(Operation::Add)),
+    ("slti", Form::Immediate(Operation::Slt)),
+    ("sltiu", Form::Immediate(Operation::Sltu)),
+    ("xori", Form::Immediate(Operation::Xor)),
+    ("ori", Form::Immediate(Operation::Or)),
+    ("andi", Form::Immediate(Operation::And)),
+    ("slli", Form::Immediate(Operation::Sll)),
+    ("srli", Form::Immediate(Operation::Srl)),
+    ("srai", Form::Immediate(Operation::Sra)),
+    ("add", Form::Registers(Operation::Add)),
+    ("sub", Form::Registers(Operation::Sub)),
+    ("sll", Form::Registers(Operation::Sll)),
+    ("slt", Form::Registers(Operation::Slt)),
+    ("sltu", Form::Registers(Operation::Sltu)),
+    ("xor", Form::Registers(Operation::Xor)),
+    ("srl", Form::Registers(Operation::Srl)),
+    ("sra", Form::Registers(Operation::Sra)),
+    ("or", Form::Registers(Operation::Or)),
+    ("and", Form::Registers(Operation::And)),
+    ("amoadd.w", Form::Amo(AmoKind::AmoAdd, PLAIN)),
+    ("amoadd.w.aq", Form::Amo(AmoKind::AmoAdd, ACQUIRE)),
+    ("amoadd.w.rl", Form::Amo(AmoKind::AmoAdd, RELEASE)),
+    ("amoadd.w.aqrl", Form::Amo(AmoKind::AmoAdd, BOTH)),
+    ("amoswap.w", Form::Amo(AmoKind::AmoSwap, PLAIN)),
+    ("amoswap.w.aq", Form::Amo(AmoKind::AmoSwap, ACQUIRE)),
+    ("amoswap.w.rl", Form::Amo(AmoKind::AmoSwap, RELEASE)),
+    ("amoswap.w.aqrl", Form::Amo(AmoKind::AmoSwap, BOTH)),
+    ("fence", Form::Alone(Instruction::Fence)),
+    ("ecall", Form::Alone(Instruction::Ecall)),
+    ("ebreak", Form::Alone(Instruction::Ebreak)),
+    ("mret", Form::Alone(Instruction::Mret)),
+    (
+        "nop",
+        Form::Alone(Instruction::OpImm {
             operation: Operation::Add,
             rd: 0,
             rs1: 0,
             value: 0,
         }),
-    },
-    Entry {
-        name: "ret",
-        form: Form::Alone(Instruction::Jalr {
+    ),
+    (
+        "ret",
+        Form::Alone(Instruction::Jalr {
             rd: 0,
             rs1: 1,
             offset: 0,
         }),
-    },
-    Entry {
-        name: "mv",
-        form: Form::Unary(Operation::Add, 0),
-    },
-    Entry {
-        name: "not",
-        form: Form::Unary(Operation::Xor, 0xffff_ffff),
-    },
-    Entry {
-        name: "seqz",
-        form: Form::Unary(Operation::Sltu, 1),
-    },
-    Entry {
-        name: "neg",
-        form: Form::FromZero(Operation::Sub),
-    },
-    Entry {
-        name: "snez",
-        form: Form::FromZero(Operation::Sltu),
-    },
-    Entry {
-        name: "sgtz",
-        form: Form::FromZero(Operation::Slt),
-    },
-    Entry {
-        name: "sltz",
-        form: Form::WithZero(Operation::Slt),
-    },
-    Entry {
-        name: "li",
-        form: Form::Li,
-    },
-    Entry {
-        name: "la",
-        form: Form::La,
-    },
-    Entry {
-        name: "j",
-        form: Form::Jump,
-    },
-    Entry {
-        name: "jr",
-        form: Form::JumpRegister,
-    },
-    Entry {
-        name: "call",
-        form: Form::Far { by: 1, back: 1 },
-    },
-    Entry {
-        name: "tail",
-        form: Form::Far { by: 6, back: 0 },
-    },
-    Entry {
-        name: ".word",
-        form: Form::Data(Width::Word),
-    },
-    Entry {
-        name: ".half",
-        form: Form::Data(Width::Half),
-    },
-    Entry {
-        name: ".byte",
-        form: Form::Data(Width::Byte),
-    },
-    Entry {
-        name: ".org",
-        form: Form::Org,
-    },
-    Entry {
-        name: ".align",
-        form: Form::Align,
-    },
-    Entry {
-        name: ".equ",
-        form: Form::Equ,
-    },
-    Entry {
-        name: ".set",
-        form: Form::Equ,
-    },
-    Entry {
-        name: ".cores",
-        form: Form::Cores,
-    },
-    Entry {
-        name: ".lines",
-        form: Form::Lines,
-    },
+    ),
+    ("mv", Form::Unary(Operation::Add, 0)),
+    ("not", Form::Unary(Operation::Xor, 0xffff_ffff)),
+    ("seqz", Form::Unary(Operation::Sltu, 1)),
+    ("neg", Form::FromZero(Operation::Sub)),
+    ("snez", Form::FromZero(Operation::Sltu)),
+    ("sgtz", Form::FromZero(Operation::Slt)),
+    ("sltz", Form::WithZero(Operation::Slt)),
+    ("li", Form::Li),
+    ("la", Form::La),
+    ("j", Form::Jump),
+    ("jr", Form::JumpRegister),
+    ("call", Form::Far { by: 1, back: 1 }),
+    ("tail", Form::Far { by: 6, back: 0 }),
+    (".word", Form::Data(Width::Word)),
+    (".half", Form::Data(Width::Half)),
+    (".byte", Form::Data(Width::Byte)),
+    (".org", Form::Org),
+    (".align", Form::Align),
+    (".equ", Form::Equ),
+    (".set", Form::Equ),
+    (".cores", Form::Cores),
+    (".lines", Form::Lines),
 ];
 
+// What stands beside a word in the first row that has it.
+fn found(table: &[(&str, Form)], name: &[u8]) -> Option<Form>
+    ensures { result ≡ option_map (λ row. row.1) (find (λ row. bytes_eq row.0.now name.now) table.now) }
+{
+    table
+        .iter()
+        .find(|(word, _)| word.as_bytes() == name)
+        .map(|(_, form)| *form)
+}
+
 // What a word at the place of a mnemonic is.
-pub fn form_of(name: &[u8]) -> Option<Form> {
-    for entry in &TABLE {
-        if entry.name.as_bytes() == name {
-            return Some(entry.form);
-        }
-    }
-    None
+pub fn form_of(name: &[u8]) -> Option<Form>
+    ensures once { IsTrue (are_distinct (map (λ row. row.0.now) TABLE)) }
+    ensures value { result ≡ first_entry (λ row. bytes_eq row.0.now name.now) (λ row. row.1) TABLE }
+{
+    found(TABLE.as_slice(), name)
 }

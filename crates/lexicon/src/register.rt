@@ -1,4 +1,8 @@
 // The registers by their names.
+ghost use Rattle.std.specs.Prelude.{◌≡◌, ◌<◌, IfSome, length, position};
+ghost use Rattle.std.specs.Str.{bytes_eq};
+ghost use Rattle.lexicon.specs.Register.{numbered, register_number};
+
 use crate::literal::number;
 
 // The names that the calling convention gives x0 to x31.
@@ -8,22 +12,32 @@ const NAMES: [&str; 32] = [
     "t5", "t6",
 ];
 
+// x0 to x31 by number.
+fn numbered(name: &[u8]) -> Option<usize>
+    ensures value { result ≡ numbered name.now }
+    ensures below { IfSome result (λ n. n < 32) }
+{
+    match name {
+        [b'x', b'0', _, ..] => None,
+        [b'x', digits @ ..] => number(digits).filter(|n| *n < 32).map(|n| n as usize),
+        _ => None,
+    }
+}
+
+fn place(names: &[&str], name: &[u8]) -> Option<usize>
+    ensures value { result ≡ position (λ other. bytes_eq other.now name.now) names.now }
+    ensures within { IfSome result (λ i. i < length names.now) }
+{
+    names.iter().position(|other| other.as_bytes() == name)
+}
+
 // The register of a name: x0 to x31, or as the calling convention has it; fp is another name of s0.
-pub fn register_of(name: &[u8]) -> Option<usize> {
+pub fn register_of(name: &[u8]) -> Option<usize>
+    ensures value { result ≡ register_number (position (λ other. bytes_eq other.now name.now) NAMES) name.now }
+    ensures below { IfSome result (λ n. n < 32) }
+{
     if name == b"fp".as_slice() {
         return Some(8);
     }
-    for (i, other) in NAMES.iter().enumerate() {
-        if other.as_bytes() == name {
-            return Some(i);
-        }
-    }
-    match name {
-        [b'x', b'0', _, ..] => None,
-        [b'x', digits @ ..] => match number(digits) {
-            Some(n) => { if n < 32 { Some(n as usize) } else { None } }
-            None => None,
-        },
-        _ => None,
-    }
+    place(&NAMES, name).or_else(|| numbered(name))
 }

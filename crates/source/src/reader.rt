@@ -1,6 +1,7 @@
 // A line of a source, read from left to right; blanks before what is read are passed over.
 use crate::fault::{Expected, Unread};
 use lexicon::literal::number;
+use lexicon::register::register_of;
 
 // What may stand in a sum.
 #[derive(Clone, Copy)]
@@ -15,23 +16,17 @@ pub(crate) enum Term<'a> {
 
 #[derive(Clone, Copy)]
 pub(crate) struct Reader<'a> {
-    text: &'a [u8],
-    at: usize,
+    rest: &'a [u8],
+    // where the rest begins, counted from 1
+    column: usize,
 }
 
 fn is_blank(byte: u8) -> bool {
-    byte == b' ' || byte == b'\t' || byte == b'\r'
-}
-
-fn is_digit(byte: u8) -> bool {
-    byte >= b'0' && byte <= b'9'
+    matches!(byte, b' ' | b'\t' | b'\r')
 }
 
 fn is_of_name(byte: u8) -> bool {
-    match byte {
-        b'a'..=b'z' | b'A'..=b'Z' | b'0'..=b'9' | b'_' | b'.' | b'$' => true,
-        _ => false,
-    }
+    byte.is_ascii_alphanumeric() || matches!(byte, b'_' | b'.' | b'$')
 }
 
 // A local label as it is referred to: digits, then b or f.
@@ -46,38 +41,36 @@ fn local<'a>(word: &'a [u8]) -> Option<Term<'a>> {
 impl<'a> Reader<'a> {
     // A line, up to a comment.
     pub(crate) fn new(line: &'a [u8]) -> Self {
-        for (i, byte) in line.iter().enumerate() {
-            if *byte == b'#' && i <= line.len() {
-                return Reader {
-                    text: &line[0..i],
-                    at: 0,
-                };
-            }
+        Reader {
+            rest: line.split(|byte| *byte == b'#').next().unwrap_or(line),
+            column: 1,
         }
-        Reader { text: line, at: 0 }
     }
 
-    fn skip_blanks(&mut self) {
-        let text = self.text;
-        for i in self.at..text.len() {
-            if !is_blank(text[i]) {
-                self.at = i;
-                return;
-            }
-        }
-        self.at = text.len();
+    // Passes the bytes that come next and are of a kind.
+    fn take_while<F: Fn(u8) -> bool>(&mut self, is_of_kind: F) -> &'a [u8]
+        requires { F.IsAlwaysCallable is_of_kind }
+    {
+        let rest = self.rest;
+        let count = rest.iter().take_while(|byte| is_of_kind(**byte)).count();
+        let Some((taken, rest)) = rest.split_at_checked(count) else {
+            return rest;
+        };
+        self.rest = rest;
+        self.column = self.column.saturating_add(count);
+        taken
     }
 
     // The next byte that is not blank.
     fn peek(&mut self) -> Option<u8> {
-        self.skip_blanks();
-        self.text.get(self.at).copied()
+        let _ = self.take_while(is_blank);
+        self.rest.first().copied()
     }
 
     // Where the next thing stands, counted from 1.
     pub(crate) fn column(&mut self) -> usize {
-        self.skip_blanks();
-        self.at.saturating_add(1)
+        let _ = self.peek();
+        self.column
     }
 
     pub(crate) fn at_end(&mut self) -> bool {
@@ -89,14 +82,20 @@ impl<'a> Reader<'a> {
         Err(Unread::At(self.column(), expected))
     }
 
+    pub(crate) fn is_next(&mut self, byte: u8) -> bool {
+        self.peek() == Some(byte)
+    }
+
     // Passes this byte, if it is next.
     pub(crate) fn take(&mut self, byte: u8) -> bool {
-        if self.peek() == Some(byte) {
-            self.at = self.at.saturating_add(1);
-            true
-        } else {
-            false
+        if !self.is_next(byte) {
+            return false;
         }
+        if let Some((_, rest)) = self.rest.split_first() {
+            self.rest = rest;
+            self.column = self.column.saturating_add(1);
+        }
+        true
     }
 
     pub(crate) fn expect(&mut self, byte: u8, expected: Expected) -> Result<(), Unread> {
@@ -107,40 +106,46 @@ impl<'a> Reader<'a> {
         }
     }
 
+    pub(crate) fn comma(&mut self) -> Result<(), Unread> {
+        self.expect(b',', Expected::Comma)
+    }
+
     // The letters, digits, underscores, dots and dollars that come next; there may be none.
     pub(crate) fn word(&mut self) -> &'a [u8] {
-        self.skip_blanks();
-        let text = self.text;
-        let from = self.at;
-        for i in from..text.len() {
-            if !is_of_name(text[i]) {
-                self.at = i;
-                return &text[from..i];
-            }
-        }
-        self.at = text.len();
-        if from <= text.len() {
-            &text[from..]
-        } else {
-            &text[0..0]
-        }
+        let _ = self.peek();
+        self.take_while(is_of_name)
     }
 
     // A name that begins with no digit.
     pub(crate) fn name(&mut self) -> Option<&'a [u8]> {
-        let before = *self;
-        let word = self.word();
-        match word {
-            [] => None,
-            [first, ..] => {
-                if is_digit(*first) {
-                    *self = before;
-                    None
-                } else {
-                    Some(word)
-                }
-            }
+        if self
+            .peek()
+            .is_none_or(|byte| byte.is_ascii_digit() || !is_of_name(byte))
+        {
+            return None;
         }
+        Some(self.word())
+    }
+
+    pub(crate) fn register(&mut self) -> Result<usize, Unread> {
+        let column = self.column();
+        register_of(self.word()).ok_or(Unread::At(column, Expected::Register))
+    }
+
+    // A register, if the next word is one's name.
+    pub(crate) fn take_register(&mut self) -> Option<usize> {
+        let mut ahead = *self;
+        let register = register_of(ahead.word())?;
+        *self = ahead;
+        Some(register)
+    }
+
+    // A register in brackets.
+    pub(crate) fn base(&mut self) -> Result<usize, Unread> {
+        self.expect(b'(', Expected::Opening)?;
+        let register = self.register()?;
+        self.expect(b')', Expected::Closing)?;
+        Ok(register)
     }
 
     // A number, a name, or a local label.
@@ -153,12 +158,9 @@ impl<'a> Reader<'a> {
         if word.is_empty() {
             return Err(Unread::At(column, Expected::Value));
         }
-        if let Some(n) = number(word) {
-            return Ok(Term::Number(n));
-        }
-        match local(word) {
-            Some(term) => Ok(term),
-            None => Err(Unread::At(column, Expected::Number)),
-        }
+        number(word)
+            .map(|n| Term::Number(n))
+            .or_else(|| local(word))
+            .ok_or(Unread::At(column, Expected::Number))
     }
 }

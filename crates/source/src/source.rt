@@ -1,6 +1,8 @@
 // A source, line by line.
+ghost use Rattle.std.specs.Prelude.{◌≡◌, IfOk, vec_len};
+
 use crate::fault::{Expected, Fault, Unread};
-use crate::operands::*;
+use crate::operands::{Operands, zero};
 use crate::reader::Reader;
 use crate::symbols::Symbols;
 use encode::order::Order;
@@ -10,7 +12,7 @@ use lexicon::mnemonic::{Form, form_of};
 use rv32::instruction::*;
 use std::alloc::{AllocError, Global};
 
-// What a source says: how many cores and lines it is for, where it says so; its statements, and the line of each; how many symbols there are;
+// What a source says: how many cores and lines it is for, where it says so; its statements, and beside them, since `lay_out` reads them as a slice, the line of each; how many symbols there are;
 // and all that is wrong with it.
 #[derive(Drop)]
 pub struct Source {
@@ -22,36 +24,34 @@ pub struct Source {
     pub faults: Vec<Fault>,
 }
 
-// A source that is being read, and the line that it has come to.
-#[derive(Drop)]
-struct Draft<'a> {
-    symbols: Symbols<'a>,
+// A statement, and the line that it is of.
+#[derive(Clone, Copy)]
+struct Row {
+    statement: Statement,
     line: usize,
-    cores: Option<usize>,
-    lines: Option<u32>,
-    statements: Vec<Statement>,
-    rows: Vec<usize>,
 }
 
-fn marked(instruction: Instruction, acquire: bool, release: bool) -> Statement {
-    Statement::Code {
-        instruction,
-        order: Order { acquire, release },
-        operand: None,
-    }
+// A source that is being read.
+#[derive(Drop)]
+struct Draft<'a> {
+    input: Operands<'a>,
+    cores: Option<usize>,
+    lines: Option<u32>,
+    rows: Vec<Row>,
 }
 
 fn plain(instruction: Instruction) -> Statement {
-    marked(instruction, false, false)
+    Statement::Code {
+        instruction,
+        order: Order::default(),
+        operand: None,
+    }
 }
 
 fn with_value(instruction: Instruction, operand: Operand) -> Statement {
     Statement::Code {
         instruction,
-        order: Order {
-            acquire: false,
-            release: false,
-        },
+        order: Order::default(),
         operand: Some(operand),
     }
 }
@@ -67,24 +67,18 @@ fn add_value(rd: usize, rs1: usize, value: u32) -> Instruction {
 
 impl<'a> Draft<'a> {
     fn emit(&mut self, statement: Statement) -> Result<(), Unread> {
-        self.statements.push(statement)?;
-        self.rows.push(self.line)?;
+        let line = self.input.line;
+        self.rows.push(Row { statement, line })?;
         Ok(())
     }
 
     // The first operand of LUI or AUIPC after the register: %hi of a sum, or the upper 20 bits as a number.
-    fn upper(
-        &mut self,
-        reader: &mut Reader<'a>,
-        instruction: Instruction,
-    ) -> Result<Statement, Unread> {
-        let before = *reader;
-        if reader.take(b'%') {
-            *reader = before;
-            return Ok(with_value(instruction, value(reader, &mut self.symbols, self.line)?));
+    fn upper(&mut self, instruction: Instruction) -> Result<Statement, Unread> {
+        let column = self.input.reader.column();
+        if self.input.reader.is_next(b'%') {
+            return Ok(with_value(instruction, self.input.value()?));
         }
-        let column = reader.column();
-        let number = constant(reader, &mut self.symbols, self.line)?;
+        let number = self.input.constant()?;
         if number > 0xfffff {
             return Err(Unread::At(column, Expected::Upper));
         }
@@ -101,47 +95,36 @@ impl<'a> Draft<'a> {
         }))
     }
 
-    fn jal(&mut self, reader: &mut Reader<'a>) -> Result<Statement, Unread> {
-        let before = *reader;
-        let mut rd = 1;
-        if let Ok(register) = register(reader) {
-            rd = register;
-            comma(reader)?;
-        } else {
-            *reader = before;
-        }
-        let to = sum(reader, &mut self.symbols, self.line, Part::Relative)?;
+    fn jal(&mut self) -> Result<Statement, Unread> {
+        let rd = match self.input.reader.take_register() {
+            Some(rd) => {
+                self.input.reader.comma()?;
+                rd
+            }
+            None => 1,
+        };
+        let to = self.input.sum(Part::Relative)?;
         Ok(with_value(Instruction::Jal { rd, offset: 0 }, to))
     }
 
-    fn jalr(&mut self, reader: &mut Reader<'a>) -> Result<Statement, Unread> {
-        let first = register(reader)?;
-        if reader.at_end() {
+    fn jalr(&mut self) -> Result<Statement, Unread> {
+        let first = self.input.reader.register()?;
+        if self.input.reader.at_end() {
             return Ok(plain(Instruction::Jalr {
                 rd: 1,
                 rs1: first,
                 offset: 0,
             }));
         }
-        comma(reader)?;
-        let before = *reader;
-        if let Ok(rs1) = register(reader) {
-            let mut offset = zero();
-            if !reader.at_end() {
-                comma(reader)?;
-                offset = value(reader, &mut self.symbols, self.line)?;
+        self.input.reader.comma()?;
+        let (offset, rs1) = match self.input.reader.take_register() {
+            None => self.input.address()?,
+            Some(rs1) if self.input.reader.at_end() => (zero(), rs1),
+            Some(rs1) => {
+                self.input.reader.comma()?;
+                (self.input.value()?, rs1)
             }
-            return Ok(with_value(
-                Instruction::Jalr {
-                    rd: first,
-                    rs1,
-                    offset: 0,
-                },
-                offset,
-            ));
-        }
-        *reader = before;
-        let (offset, rs1) = address(reader, &mut self.symbols, self.line)?;
+        };
         Ok(with_value(
             Instruction::Jalr {
                 rd: first,
@@ -153,15 +136,9 @@ impl<'a> Draft<'a> {
     }
 
     // A branch between two registers that are read already, to a place that is to be read.
-    fn branch(
-        &mut self,
-        reader: &mut Reader<'a>,
-        kind: BranchKind,
-        rs1: usize,
-        rs2: usize,
-    ) -> Result<Statement, Unread> {
-        comma(reader)?;
-        let to = sum(reader, &mut self.symbols, self.line, Part::Relative)?;
+    fn branch(&mut self, kind: BranchKind, rs1: usize, rs2: usize) -> Result<Statement, Unread> {
+        self.input.reader.comma()?;
+        let to = self.input.sum(Part::Relative)?;
         Ok(with_value(
             Instruction::Branch {
                 kind,
@@ -204,70 +181,71 @@ impl<'a> Draft<'a> {
         ))
     }
 
-    fn data(&mut self, reader: &mut Reader<'a>, width: Width) -> Result<(), Unread> {
+    fn data(&mut self, width: Width) -> Result<(), Unread> {
+        // counted: no contract says that each value takes a byte
         for _ in 0..u64::MAX {
-            let operand = value(reader, &mut self.symbols, self.line)?;
+            let operand = self.input.value()?;
             self.emit(Statement::Data { width, operand })?;
-            if !reader.take(b',') {
+            if !self.input.reader.take(b',') {
                 break;
             }
         }
         Ok(())
     }
 
-    fn equ(&mut self, reader: &mut Reader<'a>) -> Result<(), Unread> {
-        let column = reader.column();
-        let Some(name) = reader.name() else {
-            return Err(Unread::At(column, Expected::Name));
-        };
-        comma(reader)?;
-        let number = constant(reader, &mut self.symbols, self.line)?;
-        if self.symbols.define_constant(name, number)? {
+    fn equ(&mut self) -> Result<(), Unread> {
+        let column = self.input.reader.column();
+        let name = self.input.reader.name();
+        let name = name.ok_or(Unread::At(column, Expected::Name))?;
+        self.input.reader.comma()?;
+        let number = self.input.constant()?;
+        if self.input.symbols.define_constant(name, number)? {
             Ok(())
         } else {
             Err(Unread::At(column, Expected::NewName))
         }
     }
 
-    fn cores(&mut self, reader: &mut Reader<'a>) -> Result<(), Unread> {
-        let column = reader.column();
-        let number = constant(reader, &mut self.symbols, self.line)?;
-        if number < 1 || number > 4 {
-            return Err(Unread::At(column, Expected::Cores));
+    // A number from 1 on, by a directive that may stand once.
+    fn setting(&mut self, most: u32, range: Expected, is_set: bool) -> Result<u32, Unread> {
+        let column = self.input.reader.column();
+        let number = self.input.constant()?;
+        if !(1..=most).contains(&number) {
+            return Err(Unread::At(column, range));
         }
-        if self.cores.is_some() {
+        if is_set {
             return Err(Unread::At(column, Expected::Once));
         }
+        Ok(number)
+    }
+
+    fn cores(&mut self) -> Result<(), Unread> {
+        let is_set = self.cores.is_some();
+        let number = self.setting(4, Expected::Cores, is_set)?;
         self.cores = Some(number as usize);
         Ok(())
     }
 
-    fn lines(&mut self, reader: &mut Reader<'a>) -> Result<(), Unread> {
-        let column = reader.column();
-        let number = constant(reader, &mut self.symbols, self.line)?;
-        if number < 1 || number > 65536 {
-            return Err(Unread::At(column, Expected::Lines));
-        }
-        if self.lines.is_some() {
-            return Err(Unread::At(column, Expected::Once));
-        }
+    fn lines(&mut self) -> Result<(), Unread> {
+        let is_set = self.lines.is_some();
+        let number = self.setting(65536, Expected::Lines, is_set)?;
         self.lines = Some(number);
         Ok(())
     }
 
     // An instruction that is one statement.
-    fn single(&mut self, reader: &mut Reader<'a>, form: Form) -> Result<Statement, Unread> {
+    fn single(&mut self, form: Form) -> Result<Statement, Unread> {
         match form {
             Form::Alone(instruction) => return Ok(plain(instruction)),
-            Form::Jal => return self.jal(reader),
-            Form::Jalr => return self.jalr(reader),
+            Form::Jal => return self.jal(),
+            Form::Jalr => return self.jalr(),
             Form::Jump => {
-                let to = sum(reader, &mut self.symbols, self.line, Part::Relative)?;
+                let to = self.input.sum(Part::Relative)?;
                 return Ok(with_value(Instruction::Jal { rd: 0, offset: 0 }, to));
             }
             _ => {}
         }
-        let first = register(reader)?;
+        let first = self.input.reader.register()?;
         match form {
             Form::JumpRegister => {
                 return Ok(plain(Instruction::Jalr {
@@ -276,37 +254,26 @@ impl<'a> Draft<'a> {
                     offset: 0,
                 }));
             }
-            Form::BranchZero(kind) => return self.branch(reader, kind, first, 0),
-            Form::ZeroBranch(kind) => return self.branch(reader, kind, 0, first),
-            _ => comma(reader)?,
+            Form::BranchZero(kind) => return self.branch(kind, first, 0),
+            Form::ZeroBranch(kind) => return self.branch(kind, 0, first),
+            _ => self.input.reader.comma()?,
         }
-        self.after_first(reader, form, first)
+        self.after_first(form, first)
     }
 
     // The operands after the first register and a comma.
-    fn after_first(
-        &mut self,
-        reader: &mut Reader<'a>,
-        form: Form,
-        first: usize,
-    ) -> Result<Statement, Unread> {
+    fn after_first(&mut self, form: Form, first: usize) -> Result<Statement, Unread> {
         match form {
-            Form::Lui => return self.upper(
-                reader,
-                Instruction::Lui {
-                    rd: first,
-                    value: 0,
-                },
-            ),
-            Form::Auipc => return self.upper(
-                reader,
-                Instruction::Auipc {
-                    rd: first,
-                    offset: 0,
-                },
-            ),
+            Form::Lui => return self.upper(Instruction::Lui {
+                rd: first,
+                value: 0,
+            }),
+            Form::Auipc => return self.upper(Instruction::Auipc {
+                rd: first,
+                offset: 0,
+            }),
             Form::Load(kind) => {
-                let (offset, rs1) = address(reader, &mut self.symbols, self.line)?;
+                let (offset, rs1) = self.input.address()?;
                 return Ok(with_value(
                     Instruction::Load {
                         kind,
@@ -318,7 +285,7 @@ impl<'a> Draft<'a> {
                 ));
             }
             Form::Store(kind) => {
-                let (offset, rs1) = address(reader, &mut self.symbols, self.line)?;
+                let (offset, rs1) = self.input.address()?;
                 return Ok(with_value(
                     Instruction::Store {
                         kind,
@@ -331,21 +298,20 @@ impl<'a> Draft<'a> {
             }
             _ => {}
         }
-        let second = register(reader)?;
-        self.after_second(reader, form, first, second)
+        let second = self.input.reader.register()?;
+        self.after_second(form, first, second)
     }
 
     // The operands after the second register.
     fn after_second(
         &mut self,
-        reader: &mut Reader<'a>,
         form: Form,
         first: usize,
         second: usize,
     ) -> Result<Statement, Unread> {
         match form {
-            Form::Branch(kind) => self.branch(reader, kind, first, second),
-            Form::BranchSwapped(kind) => self.branch(reader, kind, second, first),
+            Form::Branch(kind) => self.branch(kind, first, second),
+            Form::BranchSwapped(kind) => self.branch(kind, second, first),
             Form::Unary(operation, value) => Ok(plain(Instruction::OpImm {
                 operation,
                 rd: first,
@@ -365,8 +331,8 @@ impl<'a> Draft<'a> {
                 rs2: 0,
             })),
             Form::Immediate(operation) => {
-                comma(reader)?;
-                let operand = value(reader, &mut self.symbols, self.line)?;
+                self.input.reader.comma()?;
+                let operand = self.input.value()?;
                 Ok(with_value(
                     Instruction::OpImm {
                         operation,
@@ -378,61 +344,60 @@ impl<'a> Draft<'a> {
                 ))
             }
             Form::Registers(operation) => {
-                comma(reader)?;
+                self.input.reader.comma()?;
                 Ok(plain(Instruction::Op {
                     operation,
                     rd: first,
                     rs1: second,
-                    rs2: register(reader)?,
+                    rs2: self.input.reader.register()?,
                 }))
             }
-            Form::Amo(kind, acquire, release) => {
-                comma(reader)?;
-                let rs1 = base(reader)?;
-                Ok(marked(
-                    Instruction::Amo {
+            Form::Amo(kind, order) => {
+                self.input.reader.comma()?;
+                Ok(Statement::Code {
+                    instruction: Instruction::Amo {
                         kind,
                         rd: first,
-                        rs1,
+                        rs1: self.input.reader.base()?,
                         rs2: second,
                     },
-                    acquire,
-                    release,
-                ))
+                    order,
+                    operand: None,
+                })
             }
-            _ => reader.fault(Expected::Mnemonic),
+            _ => self.input.reader.fault(Expected::Mnemonic),
         }
     }
 
     // A directive, or an instruction that may be two statements; else one that is one.
-    fn statement(&mut self, reader: &mut Reader<'a>, form: Form) -> Result<(), Unread> {
+    fn statement(&mut self, form: Form) -> Result<(), Unread> {
         match form {
-            Form::Data(width) => self.data(reader, width),
-            Form::Equ => self.equ(reader),
-            Form::Cores => self.cores(reader),
-            Form::Lines => self.lines(reader),
+            Form::Data(width) => self.data(width),
+            Form::Equ => self.equ(),
+            Form::Cores => self.cores(),
+            Form::Lines => self.lines(),
             Form::Org => {
-                let address = constant(reader, &mut self.symbols, self.line)?;
+                let address = self.input.constant()?;
                 self.emit(Statement::Origin { address })
             }
             Form::Align => {
-                let bits = constant(reader, &mut self.symbols, self.line)?;
+                let bits = self.input.constant()?;
                 self.emit(Statement::Align { bits })
             }
             Form::Li => {
-                let rd = register(reader)?;
-                comma(reader)?;
-                let number = constant(reader, &mut self.symbols, self.line)?;
+                let rd = self.input.reader.register()?;
+                self.input.reader.comma()?;
+                let number = self.input.constant()?;
                 self.load_number(rd, number)
             }
             Form::La => {
-                let rd = register(reader)?;
-                comma(reader)?;
-                let to = sum(reader, &mut self.symbols, self.line, Part::Whole)?;
+                let rd = self.input.reader.register()?;
+                self.input.reader.comma()?;
+                let to = self.input.sum(Part::Whole)?;
                 self.far(to, rd, add_value(rd, rd, 0))
             }
             Form::Far { by, back } => {
-                let to = sum(reader, &mut self.symbols, self.line, Part::Whole)?;
+                let to = self.input.sum(Part::Whole)?;
                 self.far(
                     to,
                     by,
@@ -444,33 +409,28 @@ impl<'a> Draft<'a> {
                 )
             }
             _ => {
-                let statement = self.single(reader, form)?;
+                let statement = self.single(form)?;
                 self.emit(statement)
             }
         }
     }
 
     // A label at the front of what is left of a line, if there is one: a name or a number, and a colon.
-    fn label(&mut self, reader: &mut Reader<'a>) -> Result<bool, Unread> {
-        let before = *reader;
-        let column = reader.column();
-        let word = reader.word();
-        if !reader.take(b':') {
-            *reader = before;
+    fn label(&mut self) -> Result<bool, Unread> {
+        let mut ahead = self.input.reader;
+        let column = ahead.column();
+        let word = ahead.word();
+        if !ahead.take(b':') {
             return Ok(false);
         }
+        let name = self.input.reader.name();
+        self.input.reader = ahead;
         let symbol = match number(word) {
-            Some(n) => self.symbols.define_local(n)?,
+            Some(n) => self.input.symbols.define_local(n)?,
             None => {
-                *reader = before;
-                let Some(name) = reader.name() else {
-                    return Err(Unread::At(column, Expected::Name));
-                };
-                let _ = reader.take(b':');
-                match self.symbols.define_label(name)? {
-                    Some(symbol) => symbol,
-                    None => return Err(Unread::At(column, Expected::NewName)),
-                }
+                let name = name.ok_or(Unread::At(column, Expected::Name))?;
+                let symbol = self.input.symbols.define_label(name)?;
+                symbol.ok_or(Unread::At(column, Expected::NewName))?
             }
         };
         self.emit(Statement::Label { symbol })?;
@@ -478,50 +438,48 @@ impl<'a> Draft<'a> {
     }
 
     // A line: labels, then at most one statement.
-    fn read_line(&mut self, text: &'a [u8]) -> Result<(), Unread> {
-        let mut reader = Reader::new(text);
-        for _ in 0..text.len() {
-            if !self.label(&mut reader)? {
+    fn read_line(&mut self) -> Result<(), Unread> {
+        // counted: no contract says that each label takes a byte
+        for _ in 0..u64::MAX {
+            if !self.label()? {
                 break;
             }
         }
-        if reader.at_end() {
+        if self.input.reader.at_end() {
             return Ok(());
         }
-        let column = reader.column();
-        let Some(name) = reader.name() else {
-            return Err(Unread::At(column, Expected::Statement));
-        };
-        let Some(form) = form_of(name) else {
-            return Err(Unread::At(column, Expected::Mnemonic));
-        };
-        self.statement(&mut reader, form)?;
-        if reader.at_end() {
+        let column = self.input.reader.column();
+        let name = self.input.reader.name();
+        let name = name.ok_or(Unread::At(column, Expected::Statement))?;
+        let form = form_of(name).ok_or(Unread::At(column, Expected::Mnemonic))?;
+        self.statement(form)?;
+        if self.input.reader.at_end() {
             Ok(())
         } else {
-            reader.fault(Expected::EndOfLine)
+            self.input.reader.fault(Expected::EndOfLine)
         }
     }
 }
 
-// One line more; a fault in it is taken down.
+// The line that comes next; a fault in it is taken down.
 fn add_line<'a>(
     draft: &mut Draft<'a>,
     faults: &mut Vec<Fault>,
+    line: usize,
     text: &'a [u8],
 ) -> Result<(), AllocError> {
-    match draft.read_line(text) {
-        Ok(()) => Ok(()),
-        Err(Unread::At(column, expected)) => {
-            faults.push(Fault {
-                line: draft.line,
-                column,
-                expected,
-            })?;
-            Ok(())
-        }
-        Err(Unread::NoMemory) => Err(AllocError),
+    draft.input.line = line;
+    draft.input.reader = Reader::new(text);
+    match draft.read_line() {
+        Ok(()) => {}
+        Err(Unread::At(column, expected)) => faults.push(Fault {
+            line,
+            column,
+            expected,
+        })?,
+        Err(Unread::NoMemory(e)) => return Err(e),
     }
+    Ok(())
 }
 
 // Labels that are referred to and stand nowhere.
@@ -539,34 +497,30 @@ fn add_undefined(symbols: &Symbols, faults: &mut Vec<Fault>) -> Result<(), Alloc
 }
 
 // Reads a source whole; what is wrong in a line does not keep the others from being read.
-pub fn read(heap: Global, text: &[u8]) -> Result<Source, AllocError> {
+pub fn read(heap: Global, text: &[u8]) -> Result<Source, AllocError>
+    ensures { IfOk result (λ source. vec_len source.rows ≡ vec_len source.statements) }
+{
     let mut draft = Draft {
-        symbols: Symbols::new(heap),
-        line: 1,
+        input: Operands {
+            reader: Reader::new(text),
+            line: 1,
+            symbols: Symbols::new(heap),
+        },
         cores: None,
         lines: None,
-        statements: Vec::new(heap),
         rows: Vec::new(heap),
     };
     let mut faults = Vec::new(heap);
-    let mut from = 0;
-    for i in 0..text.len() {
-        if text[i] == b'\n' && from <= i {
-            add_line(&mut draft, &mut faults, &text[from..i])?;
-            draft.line = draft.line.saturating_add(1);
-            from = i + 1;
-        }
+    for (i, line) in text.split(|byte| *byte == b'\n').enumerate() {
+        add_line(&mut draft, &mut faults, i.saturating_add(1), line)?;
     }
-    if from < text.len() {
-        add_line(&mut draft, &mut faults, &text[from..])?;
-    }
-    add_undefined(&draft.symbols, &mut faults)?;
+    add_undefined(&draft.input.symbols, &mut faults)?;
     Ok(Source {
         cores: draft.cores,
         lines: draft.lines,
-        symbols: draft.symbols.count(),
-        statements: draft.statements,
-        rows: draft.rows,
+        symbols: draft.input.symbols.count(),
+        statements: draft.rows.iter().map(|row| row.statement).collect(heap)?,
+        rows: draft.rows.iter().map(|row| row.line).collect(heap)?,
         faults,
     })
 }

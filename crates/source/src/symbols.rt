@@ -1,6 +1,7 @@
 // The names of a source: constants, labels, and local labels, which are numbers and may stand several times.
-use crate::fault::{Expected, Unread};
+use crate::fault::Unread;
 use std::alloc::Global;
+use std::collections::BTreeMap;
 
 // What a name stands for: a number, or a label by the number of its symbol.
 #[derive(Clone, Copy)]
@@ -9,16 +10,9 @@ pub(crate) enum Meaning {
     Label(usize),
 }
 
-#[derive(Clone, Copy)]
-struct Named<'a> {
-    name: &'a [u8],
-    meaning: Meaning,
-}
-
 // A local label: the symbol of the last one before here, and that of the next one, where it was referred to already.
-#[derive(Clone, Copy)]
+#[derive(Clone, Copy, Default)]
 struct Local {
-    number: u32,
     before: Option<usize>,
     after: Option<usize>,
 }
@@ -33,8 +27,8 @@ pub(crate) struct Mention {
 
 #[derive(Drop)]
 pub(crate) struct Symbols<'a> {
-    names: Vec<Named<'a>>,
-    locals: Vec<Local>,
+    names: BTreeMap<&'a [u8], Meaning>,
+    locals: BTreeMap<u32, Local>,
     // of each symbol, whether its label stands somewhere
     defined: Vec<bool>,
     pub mentions: Vec<Mention>,
@@ -43,8 +37,8 @@ pub(crate) struct Symbols<'a> {
 impl<'a> Symbols<'a> {
     pub(crate) fn new(heap: Global) -> Self {
         Symbols {
-            names: Vec::new(heap),
-            locals: Vec::new(heap),
+            names: BTreeMap::new(heap),
+            locals: BTreeMap::new(heap),
             defined: Vec::new(heap),
             mentions: Vec::new(heap),
         }
@@ -66,28 +60,13 @@ impl<'a> Symbols<'a> {
     }
 
     fn define(&mut self, symbol: usize) {
-        if symbol < self.defined.len() {
-            self.defined[symbol] = true;
+        if let Some(defined) = self.defined.get_mut(symbol) {
+            *defined = true;
         }
     }
 
-    // Where a name stands in the row of names.
-    fn place_of(&self, name: &[u8]) -> Option<usize> {
-        for (i, named) in self.names.iter().enumerate() {
-            if named.name == name {
-                return Some(i);
-            }
-        }
-        None
-    }
-
-    pub(crate) fn meaning_of(&self, name: &[u8]) -> Option<Meaning> {
-        for named in self.names.iter() {
-            if named.name == name {
-                return Some(named.meaning);
-            }
-        }
-        None
+    pub(crate) fn meaning_of(&self, name: &'a [u8]) -> Option<Meaning> {
+        self.names.get(&name).copied()
     }
 
     // What a name stands for; one that is new will be a label.
@@ -96,112 +75,67 @@ impl<'a> Symbols<'a> {
             return Ok(meaning);
         }
         let meaning = Meaning::Label(self.new_symbol()?);
-        self.names.push(Named { name, meaning })?;
+        self.names.insert(name, meaning)?;
         Ok(meaning)
     }
 
     // A label of this name stands here; none where the name is taken.
     pub(crate) fn define_label(&mut self, name: &'a [u8]) -> Result<Option<usize>, Unread> {
         match self.refer(name)? {
-            Meaning::Constant(_) => Ok(None),
-            Meaning::Label(symbol) => {
-                if self.is_defined(symbol) {
-                    return Ok(None);
-                }
+            Meaning::Label(symbol) if !self.is_defined(symbol) => {
                 self.define(symbol);
                 Ok(Some(symbol))
             }
+            _ => Ok(None),
         }
     }
 
     // A name is a number from here on; false where it is a label.
     pub(crate) fn define_constant(&mut self, name: &'a [u8], value: u32) -> Result<bool, Unread> {
-        let meaning = Meaning::Constant(value);
-        let Some(i) = self.place_of(name) else {
-            self.names.push(Named { name, meaning })?;
-            return Ok(true);
-        };
         if let Some(Meaning::Label(_)) = self.meaning_of(name) {
             return Ok(false);
         }
-        if i < self.names.len() {
-            self.names[i] = Named { name, meaning };
-        }
+        self.names.insert(name, Meaning::Constant(value))?;
         Ok(true)
     }
 
-    fn local(&self, number: u32) -> (usize, Local) {
-        for (i, local) in self.locals.iter().enumerate() {
-            if local.number == number {
-                return (i, *local);
-            }
-        }
-        let local = Local {
-            number,
-            before: None,
-            after: None,
-        };
-        (self.locals.len(), local)
-    }
-
-    fn put_local(&mut self, i: usize, local: Local) -> Result<(), Unread> {
-        if i < self.locals.len() {
-            self.locals[i] = local;
-        } else {
-            self.locals.push(local)?;
-        }
-        Ok(())
+    fn local(&self, number: u32) -> Local {
+        self.locals.get(&number).copied().unwrap_or_default()
     }
 
     // The symbol of the last local label of this number before here.
     pub(crate) fn local_before(&self, number: u32) -> Option<usize> {
-        self.local(number).1.before
+        self.local(number).before
     }
 
     // The symbol of the next local label of this number.
     pub(crate) fn local_after(&mut self, number: u32) -> Result<usize, Unread> {
-        let (i, local) = self.local(number);
+        let local = self.local(number);
         if let Some(symbol) = local.after {
             return Ok(symbol);
         }
         let symbol = self.new_symbol()?;
-        self.put_local(
-            i,
-            Local {
-                after: Some(symbol),
-                ..local
-            },
-        )?;
+        let after = Some(symbol);
+        self.locals.insert(number, Local { after, ..local })?;
         Ok(symbol)
     }
 
     // A local label of this number stands here.
     pub(crate) fn define_local(&mut self, number: u32) -> Result<usize, Unread> {
         let symbol = self.local_after(number)?;
-        let (i, local) = self.local(number);
-        self.put_local(
-            i,
+        self.locals.insert(
+            number,
             Local {
                 before: Some(symbol),
                 after: None,
-                ..local
             },
         )?;
         self.define(symbol);
         Ok(symbol)
     }
 
-    pub(crate) fn mention(
-        &mut self,
-        symbol: usize,
-        line: usize,
-        column: usize,
-    ) -> Result<(), Unread> {
-        self.mentions.push(Mention {
-            symbol,
-            line,
-            column,
-        })?;
+    pub(crate) fn mention(&mut self, mention: Mention) -> Result<(), Unread> {
+        self.mentions.push(mention)?;
         Ok(())
     }
 }
