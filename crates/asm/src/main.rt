@@ -1,7 +1,6 @@
 // Turns the source of a program into a memory for the chip.
 #![tactic(auto)]
 
-mod messages;
 mod options;
 
 use anyhow::anyhow;
@@ -9,7 +8,6 @@ use command::end::run_or_help;
 use command::files::bytes_of;
 use image::store_bytes;
 use layout::{LayoutError, extent, lay_out};
-use messages::{at_fault, wanted};
 use options::Options;
 use source::{Source, read};
 use std::fs;
@@ -39,31 +37,22 @@ struct Memory {
 
 // How many lines memory has: as many as the source says, else as many as it needs.
 fn lines_of(source: &Source) -> u32 {
-    match source.lines {
-        Some(lines) => lines,
-        None => extent(source.statements.as_slice(), 32 * 65536)
+    source.lines.unwrap_or_else(|| {
+        extent(source.statements.as_slice(), 32 * 65536)
             .div_ceil(32)
-            .max(1),
-    }
+            .max(1)
+    })
 }
 
 // Whether a line is reported already.
 fn is_reported(source: &Source, line: usize) -> bool {
-    for fault in source.faults.iter() {
-        if fault.line == line {
-            return true;
-        }
-    }
-    false
+    source.faults.iter().any(|fault| fault.line == line)
 }
 
 // Reports what is wrong in the source's text.
 fn report_faults(rt: &HostRuntime, path: &str, source: &Source) -> anyhow::Result<()> {
     for fault in source.faults.iter() {
-        let line = fault.line;
-        let column = fault.column;
-        let what = wanted(fault.expected);
-        eprintln!(rt; "{path}:{line}:{column}: expected {what}")?;
+        eprintln!(rt; "{path}:{fault}")?;
     }
     Ok(())
 }
@@ -75,15 +64,15 @@ fn report_layout(
     source: &Source,
     error: LayoutError,
 ) -> anyhow::Result<()> {
-    let LayoutError::Faults(faults) = error else {
-        eprintln!(rt; "{path}: no room for its memory")?;
+    let LayoutError::Faults(faults) = &error else {
+        eprintln!(rt; "{path}: {error}")?;
         return Ok(());
     };
     for located in faults.iter() {
         let line = source.rows.get(located.index).copied().unwrap_or(0);
         if !is_reported(source, line) {
-            let what = at_fault(located.fault);
-            eprintln!(rt; "{path}:{line}: expected {what}")?;
+            let fault = located.fault;
+            eprintln!(rt; "{path}:{line}: expected {fault}")?;
         }
     }
     Ok(())
@@ -117,17 +106,16 @@ fn print_memory(rt: &HostRuntime, path: &str, memory: &Memory) -> anyhow::Result
     let cores = memory.cores;
     let lines = memory.bytes.len() / 32;
     println!(rt; "{path} cores {cores} lines {lines}")?;
-    for (i, line) in memory.bytes.as_slice().chunks(32).enumerate() {
-        if line.iter().max() == Some(&0) {
+    for (i, line) in memory.bytes.as_slice().chunks_exact(32).enumerate() {
+        if line.iter().all(|byte| *byte == 0) {
             continue;
         }
         let address = i.saturating_mul(32);
         print!(rt; "{address:08x}:")?;
-        for word in line.chunks(4) {
-            if let [a, b, c, d] = word {
-                let word = u32::from_le_bytes([*a, *b, *c, *d]);
-                print!(rt; " {word:08x}")?;
-            }
+        let (words, _) = line.as_chunks();
+        for word in words {
+            let word = u32::from_le_bytes(*word);
+            print!(rt; " {word:08x}")?;
         }
         println!(rt; "")?;
     }
