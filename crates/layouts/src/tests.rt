@@ -214,9 +214,8 @@ fn all_faults_are_told(rt: HostRuntime) -> Result<(), Fail> {
         code(Instruction::Ebreak),
         Statement::Align { bits: 6 },
     ];
-    let told = match lay_out(rt.alloc(), &statements, 0, 1) {
-        Err(LayoutError::Faults(faults)) => faults,
-        _ => return Err(Fail::new("laid out")),
+    let Err(LayoutError::Faults(told)) = lay_out(rt.alloc(), &statements, 0, 1) else {
+        return Err(Fail::new("laid out"));
     };
     let faults = [
         Located {
@@ -251,24 +250,19 @@ fn an_instruction_without_a_word_is_told(rt: HostRuntime) -> Result<(), Fail> {
         code(add_immediate(A0, 32, 0)),
         code(add_immediate(A0, A0, 2048)),
     ];
-    match lay_out(rt.alloc(), &statements, 0, 1) {
-        Err(LayoutError::Faults(faults)) => {
-            assert_eq!(rt;
-                faults.as_slice(),
-                [
-                    Located {
-                        index: 0,
-                        fault: Fault::NoWord(Misfit::Register),
-                    },
-                    Located {
-                        index: 1,
-                        fault: Fault::NoWord(Misfit::Immediate),
-                    },
-                ]
-                .as_slice()
-            );
-            Ok(())
+    let Err(LayoutError::Faults(told)) = lay_out(rt.alloc(), &statements, 0, 1) else {
+        return Err(Fail::new("laid out"));
+    };
+    let faults = [
+        Located {
+            index: 0,
+            fault: Fault::NoWord(Misfit::Register),
         },
-        _ => Err(Fail::new("laid out")),
-    }
+        Located {
+            index: 1,
+            fault: Fault::NoWord(Misfit::Immediate),
+        },
+    ];
+    assert_eq!(rt; told.as_slice(), faults.as_slice());
+    Ok(())
 }

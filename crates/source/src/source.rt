@@ -1,5 +1,5 @@
 // A source, line by line.
-ghost use Rattle.std.specs.Prelude.{◌≡◌, IfOk, vec_len};
+ghost use Rattle.std.specs.Prelude.{◌≡◌, ℕ, ◌≤◌, IfOk, Some, vec_len};
 
 use crate::fault::{Expected, Fault, Unread};
 use crate::operands::{Operands, zero};
@@ -38,6 +38,8 @@ struct Draft<'a> {
     cores: Option<usize>,
     lines: Option<u32>,
     rows: Vec<Row>,
+    ghost few_cores: { (n : ℕ) → cores ≡ Some n → (1 ≤ n) × (n ≤ 4) },
+    ghost few_lines: { (n : ℕ) → lines ≡ Some n → (1 ≤ n) × (n ≤ 65536) },
 }
 
 fn plain(instruction: Instruction) -> Statement {
@@ -207,7 +209,9 @@ impl<'a> Draft<'a> {
     }
 
     // A number from 1 on, by a directive that may stand once.
-    fn setting(&mut self, most: u32, range: Expected, is_set: bool) -> Result<u32, Unread> {
+    fn setting(&mut self, most: u32, range: Expected, is_set: bool) -> Result<u32, Unread>
+        ensures { IfOk result (λ n. (1 ≤ n) × (n ≤ most)) }
+    {
         let column = self.input.reader.column();
         let number = self.input.constant()?;
         if !(1..=most).contains(&number) {
@@ -498,7 +502,9 @@ fn add_undefined(symbols: &Symbols, faults: &mut Vec<Fault>) -> Result<(), Alloc
 
 // Reads a source whole; what is wrong in a line does not keep the others from being read.
 pub fn read(heap: Global, text: &[u8]) -> Result<Source, AllocError>
-    ensures { IfOk result (λ source. vec_len source.rows ≡ vec_len source.statements) }
+    ensures rows { IfOk result (λ source. vec_len source.rows ≡ vec_len source.statements) }
+    ensures cores { IfOk result (λ source. (n : ℕ) → source.cores ≡ Some n → (1 ≤ n) × (n ≤ 4)) }
+    ensures lines { IfOk result (λ source. (n : ℕ) → source.lines ≡ Some n → (1 ≤ n) × (n ≤ 65536)) }
 {
     let mut draft = Draft {
         input: Operands {
