@@ -1,17 +1,17 @@
 -- A core's own cache, and the caches of all cores.
-use Rattle.std.proofs.Common.{◌≡◌, ℕ, suc, ◌+◌, ◌*◌, ◌/◌, ◌%◌, ◌<◌, ◌≤◌, Bool, true, false, List, length, get_or, take, drop, set, sym, refl, ap, ◌∙◌, inl, inr, arith}
+use Rattle.std.proofs.Common.{◌≡◌, ℕ, suc, ◌+◌, ◌*◌, ◌/◌, ◌%◌, ◌<◌, ◌≤◌, Bool, true, false, List, get_or, set, sym, refl, ap, ◌∙◌, inl, inr, arith}
 use mathlib.Core.Path.{fun_ext}
-use borrow.Rule.Slice.PartMut.{put_mid}
 use Rattle.std.proofs.lemmas.Bool.{cases_eq, cases_lt, lt-ltb, le-ltb, eq-eqb, ne_eqb}
 use Rattle.rv32.specs.declared.core_state.Need.{Need}
 use Rattle.rv32.specs.declared.core_state.Need.TheVariants.{Nothing, Read, Write}
-use Rattle.words.specs.Parts.{part, block}
-use Rattle.words.proofs.Parts.{part_is, part_here, part_other, part_part, apart}
+use Rattle.words.specs.Parts.{part, block, table}
+use Rattle.words.proofs.Parts.{part_part}
+use Rattle.words.proofs.Tables.{within_read, within_written}
 use Rattle.cores.specs.Machines.{pick}
 use Rattle.cores.specs.Put.{put}
-use Rattle.cache.specs.Slots.{Slot, holds, has, owns, words, home, Found, missing, found, find, word_at, cached, ready, lacks, to_read, to_write, seek, goes_first, chosen}
+use Rattle.cache.specs.Slots.{Slot, empty, holds, has, owns, words, home, Found, missing, found, find, word_at, cached, ready, lacks, to_read, to_write, seek, goes_first, chosen}
 use Rattle.cache.specs.Words.{slot_of, slots_of, caches_of, stored_at, stored_in}
-use Rattle.cache.specs.Own.{Own, with_own, shifted, OwnWords}
+use Rattle.cache.specs.Own.{Own, with_own, shifted, OwnWords, OwnWordsWritten, PlaceRead, PlaceWritten}
 use Rattle.cache.proofs.Written.{picked, unpicked, put_is}
 
 -- block i of block k
@@ -21,10 +21,6 @@ inner w k i h = part_part (640 * k) 640 (10 * i) 10 w (omega arith) ∙ ap (λ a
 pub own_words : OwnWords
 own_words w k h i l =
     picked _ _ _ (lt-ltb i 64 l) ∙ ap slot_of (inner w k i l) ∙ sym (picked _ _ _ (lt-ltb (64 * k + i) 256 (omega arith)))
-
--- a slice of core k's words, as the checker reads it
-pub own_view : (w : List ℕ) (k n : ℕ) → k < 4 → n ≡ 640 → Own k (caches_of w) (slots_of (take n (drop (640 * k) w)))
-own_view w k n h e i l = ap (λ b. slots_of b i) (part_is (640 * k) 640 n w e) ∙ own_words w k h i l
 
 -- the two places of a line
 pub home_own : (k a : ℕ) → home k a ≡ 64 * k + home 0 a
@@ -136,9 +132,15 @@ caches_changed v w k h same = fun_ext (λ p. elim (cases_lt p 256) [ inl l ↦ i
           | inr d ↦ ap (λ b. slots_of b (p % 64)) (same (p / 64) (omega arith) d) ∙ sym (slots_by w p l) ∙ sym (unpicked _ _ _ (ne_eqb (p / 64) k d))
         ]
 
-pub caches_written : (w ys : List ℕ) (k n : ℕ) → k < 4 → length w ≡ 2560 → length ys ≡ 640 → n ≡ 640 →
-    caches_of (put_mid (640 * k) n w ys) ≡ with_own k (caches_of w) (slots_of ys)
-caches_written w ys k n h l e f =
-    rw f
-    (caches_changed (put_mid (640 * k) 640 w ys) w k h (λ j b ne. part_other (640 * j) 640 (640 * k) 640 w ys e (omega arith) (apart 640 k j ne))
-    ∙ ap (λ b. with_own k (caches_of w) (slots_of b)) (part_here (640 * k) 640 640 w ys e (omega arith)))
+pub own_words_written : OwnWordsWritten
+own_words_written v w ys k h e =
+    let at : (j : ℕ) → block 640 v j ≡ put (block 640 w) k ys j = λ j. ap (λ (f : ℕ → List ℕ). f j) e in
+    caches_changed v w k h (λ j l ne. at j ∙ unpicked _ _ _ (ne_eqb j k ne))
+    ∙ ap (λ b. with_own k (caches_of w) (slots_of b)) (at k ∙ picked _ _ _ (eq-eqb k k refl))
+
+-- a place of all caches
+pub place_read : PlaceRead
+place_read w p h = within_read 256 empty (table 10 (λ _. slot_of) w) p h
+
+pub place_written : PlaceWritten
+place_written v w p x h e = within_written 256 empty (table 10 (λ _. slot_of) w) (table 10 (λ _. slot_of) v) p x h e

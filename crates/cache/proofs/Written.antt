@@ -4,14 +4,13 @@ use mathlib.Core.Path.{fun_ext}
 use borrow.Rule.Slice.PartMut.{put_mid}
 use Rattle.std.proofs.lemmas.Bool.{cases_eq, cases_lt, lt-ltb, le-ltb, eq-eqb, ne_eqb}
 use Rattle.words.specs.Parts.{part, block}
-use Rattle.words.proofs.Parts.{part_here, part_other, apart, part_word, put_length}
+use Rattle.words.proofs.Parts.{part_here, part_other, apart, part_word, word_below}
 use Rattle.cores.specs.Machines.{pick}
 use Rattle.cores.specs.Put.{put}
 use Rattle.cache.specs.Slots.{empty, words}
 use Rattle.cache.specs.Slots as slots
 use Rattle.cache.specs.Words.{holding, tag_of, slot_of, table_of, caches_of}
 use Rattle.cache.specs.declared.slot.Slot.{Slot}
-use Rattle.cache.specs.declared.slot.Slot.TheVariants.{Empty, Shared, Owned}
 
 pub picked : {A : Type 0} (b : Bool) (x y : A) → b ≡ true → pick b x y ≡ x
 picked b x y e = ap (λ t. pick t x y) e
@@ -24,17 +23,12 @@ pub put_is : {A : Type 0} (f g : ℕ → A) (k : ℕ) (v : A) → g k ≡ v → 
 put_is f g k v h o =
     fun_ext (λ j. elim (cases_eq j k) [ inl e ↦ rw e (h ∙ sym (picked _ _ _ (eq-eqb k k refl))) | inr ne ↦ o j ne ∙ sym (unpicked _ _ _ (ne_eqb j k ne)) ])
 
--- ten words, the two of the tag written first
-pub slot_written : (b ys zs w : List ℕ) (s : Slot) → length b ≡ 10 → length ys ≡ 2 → length zs ≡ 8 → tag_of (get_or ys 0 0) (get_or ys 1 0) ≡ s → zs ≡ w →
-    slot_of (put_mid 2 8 (put_mid 0 2 b ys) zs) ≡ holding s w
-slot_written b ys zs w s n l h e f =
-    let v : List ℕ = put_mid 0 2 b ys in
-    let m : length v ≡ 10 = put_length 0 2 b ys l (omega arith) ∙ n in
-    let front : part 0 2 (put_mid 2 8 v zs) ≡ ys = part_other 0 2 2 8 v zs h (omega arith) (inl (omega arith)) ∙ part_here 0 2 2 b ys l (omega arith) in
-    let x : List ℕ = put_mid 2 8 v zs in
-    let kind : get_or x 0 0 ≡ get_or ys 0 0 = sym (part_word 0 2 x 0 0 (omega arith)) ∙ ap (λ t. get_or t 0 0) front in
-    let line : get_or x 1 0 ≡ get_or ys 1 0 = sym (part_word 0 2 x 1 0 (omega arith)) ∙ ap (λ t. get_or t 1 0) front in
-    ap₂ holding (ap₂ tag_of kind line ∙ e) (part_here 2 8 8 v zs h (omega arith) ∙ f)
+-- ten words, the tag written first
+pub slot_written : (b zs w : List ℕ) (s : Slot) → length b ≡ 10 → tag_of (get_or b 0 0) (get_or b 1 0) ≡ s → length zs ≡ 8 → zs ≡ w → slot_of (put_mid 2 8 b zs) ≡ holding s w
+slot_written b zs w s n e h f =
+    let kind : get_or (put_mid 2 8 b zs) 0 0 ≡ get_or b 0 0 = word_below 2 8 b zs 0 0 (omega arith) (omega arith) in
+    let line : get_or (put_mid 2 8 b zs) 1 0 ≡ get_or b 1 0 = word_below 2 8 b zs 1 0 (omega arith) (omega arith) in
+    ap₂ holding (ap₂ tag_of kind line ∙ e) (part_here 2 8 8 b zs h (omega arith) ∙ f)
 
 -- a table of m slots, after slot i was written
 pub table_written : (m : ℕ) (w ys : List ℕ) (i n : ℕ) (x : slots.Slot) → i < m → 10 * i + 10 ≤ length w → length ys ≡ 10 → n ≡ 10 → slot_of ys ≡ x →
@@ -44,21 +38,6 @@ table_written m w ys i n x h l e f g =
     (put_is (table_of m w) _ i x
     (picked _ _ _ (lt-ltb i m h) ∙ ap slot_of (part_here (10 * i) 10 10 w ys e l) ∙ g)
     (λ j ne. ap (λ b. pick (ltb j m) (slot_of b) empty) (part_other (10 * j) 10 (10 * i) 10 w ys e l (apart 10 i j ne))))
-
--- a tag alone, read from the two words that it lies in: with the slot's words it is the slot
-tag_alone : (s : Slot) (w : List ℕ) → holding s (words (holding s w)) ≡ holding s w
-tag_alone Empty w = refl
-tag_alone (Shared a) w = refl
-tag_alone (Owned a d) w = refl
-
-pub tag_at : (w : List ℕ) (a : ℕ) (s : Slot) → s ≡ tag_of (get_or w a 0) (get_or w (a + 1) 0) →
-    holding s (words (slot_of (part a 10 w))) ≡ slot_of (part a 10 w)
-tag_at w a s e =
-    let b = part a 10 w in
-    let kind : get_or b 0 0 ≡ get_or w a 0 = part_word a 10 w 0 0 (omega arith) ∙ ap (λ j. get_or w j 0) (omega arith) in
-    let line : get_or b 1 0 ≡ get_or w (a + 1) 0 = part_word a 10 w 1 0 (omega arith) in
-    let tag : s ≡ tag_of (get_or b 0 0) (get_or b 1 0) = e ∙ ap₂ tag_of (sym kind) (sym line) in
-    ap (λ t. holding t (words (slot_of b))) tag ∙ tag_alone (tag_of (get_or b 0 0) (get_or b 1 0)) (part 2 8 b)
 
 -- caches whose kinds are all 0 are empty
 pub caches_clear : (w : List ℕ) → ((p : ℕ) → p < 256 → get_or w (10 * p) 0 ≡ 0) → caches_of w ≡ (λ p. empty)

@@ -2,11 +2,11 @@
 -- Assumes nothing: these are definitions.
 use Rattle.std.specs.Prelude.{◌≡◌, ℕ, suc, ◌+◌, ◌*◌, ◌/◌, ◌%◌, ◌<◌, Bool, List, ◌==◌}
 use Rattle.rv32.specs.declared.core_state.Need.{Need}
-use Rattle.words.specs.Parts.{block}
+use Rattle.words.specs.Parts.{block, table}
 use Rattle.cores.specs.Machines.{pick}
 use Rattle.cores.specs.Put.{put}
 use Rattle.cache.specs.Slots.{Slot, Found, missing, found, home, find, cached, seek, goes_first, chosen}
-use Rattle.cache.specs.Words.{slots_of, caches_of, stored_in}
+use Rattle.cache.specs.Words.{slot_of, slots_of, caches_of, stored_in}
 
 -- g has the slots of core k, of all slots f
 abbrev pub Own : ℕ → (ℕ → Slot) → (ℕ → Slot) → Type 0
@@ -42,3 +42,14 @@ OwnWritten = (k i : ℕ) (f g : ℕ → Slot) (x : Slot) → i < 64 → Own k f 
 
 abbrev pub OwnStored : Type 0
 OwnStored = (k y v : ℕ) (f g : ℕ → Slot) → Own k f g → with_own k f (stored_in g 0 y v) ≡ stored_in f k y v
+
+-- words in which only the block of core k is another have the caches in which only its own is
+abbrev pub OwnWordsWritten : Type 0
+OwnWordsWritten = (v w ys : List ℕ) (k : ℕ) → k < 4 → block 640 v ≡ put (block 640 w) k ys → caches_of v ≡ with_own k (caches_of w) (slots_of ys)
+
+-- a place has what its ten words say, and a write to them is one to that place
+abbrev pub PlaceRead : Type 0
+PlaceRead = (w : List ℕ) (p : ℕ) → p < 256 → table 10 (λ _. slot_of) w p ≡ caches_of w p
+
+abbrev pub PlaceWritten : Type 0
+PlaceWritten = (v w : List ℕ) (p : ℕ) (x : Slot) → p < 256 → table 10 (λ _. slot_of) v ≡ put (table 10 (λ _. slot_of) w) p x → caches_of v ≡ put (caches_of w) p x

@@ -1,6 +1,6 @@
 -- How slots lie in lent words: ten words for each, so 640 for the cache of a core, and 2,560 for the caches of four.
 -- Every content of the words is a cache. Assumes nothing: these are definitions.
-use Rattle.std.specs.Prelude.{ℕ, ◌/◌, ◌%◌, true, false, not, List, Some, None, Option, ◌==◌, nat_lt, slice_index, slice_set}
+use Rattle.std.specs.Prelude.{ℕ, ◌/◌, ◌%◌, Bool, true, false, not, List, Some, None, Option, ◌==◌, nat_lt, slice_index, slice_set}
 use Rattle.words.specs.Parts.{part, block}
 use Rattle.cores.specs.Machines.{pick}
 use Rattle.cores.specs.Put.{put}
@@ -9,6 +9,8 @@ use Rattle.cache.specs.Slots as slots
 use Rattle.cache.specs.declared.slot.Slot.{Slot}
 use Rattle.cache.specs.declared.slot.Slot.TheVariants.{Empty, Shared, Owned}
 use Rattle.cache.specs.declared.slot.Content.{Content}
+use Rattle.cache.specs.declared.slot.Access.{Access}
+use Rattle.cache.specs.declared.slot.Access.TheVariants.{Read, Write}
 use Rattle.cache.specs.declared.slot.Lack.{Lack}
 
 -- what a slot has, with these words beside it
@@ -25,9 +27,17 @@ abbrev pub found_of : Option ℕ → Found
 found_of None = missing
 found_of (Some i) = found i
 
+abbrev pub is_write : Access → Bool
+is_write Read = false
+is_write Write = true
+
 abbrev pub lack_of : Option Lack → slots.Lack
 lack_of None = ready
-lack_of (Some l) = lacks l.line l.write
+lack_of (Some l) = lacks l.line (is_write l.access)
+
+-- what a word says that a line is asked for
+abbrev pub access_in : ℕ → Access
+access_in x = pick (x == 0) Read Write
 
 -- what a kind and a line's number say: 0 is empty, 1 shared, 2 owned, and any other owned and dirty
 abbrev pub tag_of : ℕ → ℕ → Slot

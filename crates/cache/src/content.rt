@@ -1,43 +1,35 @@
-// A slot with its words, by value: what it is after a step, what memory gets of it, and ten lent words that it lies in.
-ghost use Rattle.std.specs.Prelude.{◌≡◌, ℕ, ◌+◌, ◌*◌, ◌<◌, ◌≤◌, true, false, List, [], ◌∷◌, length, slice_index};
-ghost use Rattle.words.specs.Parts.{part};
+// A slot with its words, by value: what it is after a step, and what memory gets of it; and the tables that slots lie in.
+ghost use Rattle.std.specs.Prelude.{◌≡◌, ℕ, true, false, List, [], ◌∷◌, slice_index};
 ghost use Rattle.cores.specs.Ports.{line_of, somes};
-ghost use Rattle.cores.specs.Put.{put};
+ghost use Rattle.cache.specs.Slots as slots;
 ghost use Rattle.cache.specs.Slots.{back, has, holds, is_empty, lowered, owns, raised, words as eight_words};
-ghost use Rattle.cache.specs.Words.{content_of, holding, slot_of, table_of, tag_of};
+ghost use Rattle.cache.specs.Words.{content_of, holding, slot_of, tag_of};
+ghost use Rattle.cache.specs.declared.slot.Slot as tag;
 
 use crate::slot::{Content, Slot};
 use cores::port::Line;
+use words::table::Table;
 
 impl Slot {
     // Whether it has the line, to read at least.
     pub fn has(self, line: u32) -> bool
         ensures { (w : List ℕ) → has (holding self w) line ≡ result }
     {
-        match self {
-            Slot::Empty => false,
-            Slot::Shared { line: own } | Slot::Owned { line: own, .. } => own == line,
-        }
+        matches!(self, Slot::Shared { line: own } | Slot::Owned { line: own, .. } if own == line)
     }
 
     // Whether it has the line to write.
     pub fn owns(self, line: u32) -> bool
         ensures { (w : List ℕ) → owns (holding self w) line ≡ result }
     {
-        match self {
-            Slot::Empty | Slot::Shared { .. } => false,
-            Slot::Owned { line: own, .. } => own == line,
-        }
+        matches!(self, Slot::Owned { line: own, .. } if own == line)
     }
 
     // Whether it has nothing.
     pub fn is_empty(self) -> bool
         ensures { (w : List ℕ) → is_empty (holding self w) ≡ result }
     {
-        match self {
-            Slot::Empty => true,
-            Slot::Shared { .. } | Slot::Owned { .. } => false,
-        }
+        matches!(self, Slot::Empty)
     }
 }
 
@@ -109,95 +101,58 @@ impl Content {
     }
 }
 
-// What a kind and a line's number say.
-pub fn tag(kind: u32, line: u32) -> Slot
-    ensures { result ≡ tag_of kind line }
-{
-    match kind {
-        0 => Slot::Empty,
-        1 => Slot::Shared { line },
-        _ => Slot::Owned {
-            line,
-            dirty: kind != 2,
-        },
+// Slots without their words, in a table of slots.
+pub struct Tags;
+
+impl Table for Tags {
+    type Value = Slot;
+
+    const SIZE: usize = 10;
+
+    ghost SIZE = { 10 };
+
+    ghost Meaning = { tag.Slot };
+
+    ghost means = { λ _ slot. slot };
+
+    ghost said = { λ _ words. tag_of (slice_index words 0) (slice_index words 1) };
+
+    fn read(block: &[u32]) -> Slot {
+        Slot::from([block[0], block[1]])
+    }
+
+    fn write(block: &mut [u32], slot: Slot) {
+        block[0..2].copy_from_slice(&<[u32; 2]>::from(slot));
     }
 }
 
-// Ten words of a slot, by value.
-pub fn read_content(block: &[u32]) -> Content
-    requires { length block.now ≡ 10 }
-    ensures { content_of result ≡ slot_of block.now }
-{
-    let mut words = [0; 8];
-    words.copy_from_slice(&block[2..10]);
-    Content {
-        slot: tag(block[0], block[1]),
-        words,
+// Slots with their words.
+pub struct Slots;
+
+impl Table for Slots {
+    type Value = Content;
+
+    const SIZE: usize = 10;
+
+    ghost SIZE = { 10 };
+
+    ghost Meaning = { slots.Slot };
+
+    ghost means = { λ _. content_of };
+
+    ghost said = { λ _. slot_of };
+
+    fn read(block: &[u32]) -> Content {
+        let mut words = [0; 8];
+        words.copy_from_slice(&block[2..10]);
+        Content {
+            slot: Tags::read(block),
+            words,
+        }
     }
-}
 
-// The kind and the line's number that say it.
-fn tag_words(slot: Slot) -> [u32; 2]
-    ensures { tag_of (slice_index result 0) (slice_index result 1) ≡ slot }
-{
-    match slot {
-        Slot::Empty => [0, 0],
-        Slot::Shared { line } => [1, line],
-        Slot::Owned { line, dirty } => [if dirty { 3 } else { 2 }, line],
+    fn write(block: &mut [u32], content: Content) {
+        Tags::write(block, content.slot);
+        block[2..10].copy_from_slice(&content.words);
     }
-}
-
-// Ten words that are a slot from now on.
-pub fn write_content(block: &mut [u32], content: Content)
-    requires { length block.old ≡ 10 }
-    ensures { slot_of block.new ≡ content_of content }
-{
-    block[0..2].copy_from_slice(&tag_words(content.slot));
-    block[2..10].copy_from_slice(&content.words);
-}
-
-// The slot that lies in ten words from word a on.
-pub(crate) fn content_from(lent: &[u32], a: usize) -> Content
-    requires { a + 10 ≤ length lent.now }
-    ensures { content_of result ≡ slot_of (part a 10 lent.now) }
-{
-    read_content(&lent[a..a + 10])
-}
-
-// The same without its words.
-pub(crate) fn slot_from(lent: &[u32], a: usize) -> Slot
-    requires { a + 10 ≤ length lent.now }
-    ensures { holding result (eight_words (slot_of (part a 10 lent.now))) ≡ slot_of (part a 10 lent.now) }
-{
-    tag(lent[a], lent[a + 1])
-}
-
-// Slot i of the words has this from now on, and all others stay, of however many slots.
-pub(crate) fn put_slot(lent: &mut [u32], i: usize, content: Content)
-    requires { 10 * i + 10 ≤ length lent.old }
-    ensures { (n : ℕ) → i < n → table_of n lent.new ≡ put (table_of n lent.old) i (content_of content) }
-{
-    write_content(&mut lent[10 * i..10 * i + 10], content);
-}
-
-// Whether it has the line, to read at least; whether it has it to write; and whether it has nothing.
-pub(crate) fn has_from(lent: &[u32], a: usize, line: u32) -> bool
-    requires { a + 10 ≤ length lent.now }
-    ensures { result ≡ has (slot_of (part a 10 lent.now)) line }
-{
-    slot_from(lent, a).has(line)
-}
-
-pub(crate) fn owns_from(lent: &[u32], a: usize, line: u32) -> bool
-    requires { a + 10 ≤ length lent.now }
-    ensures { result ≡ owns (slot_of (part a 10 lent.now)) line }
-{
-    slot_from(lent, a).owns(line)
-}
-
-pub(crate) fn is_empty_from(lent: &[u32], a: usize) -> bool
-    requires { a + 10 ≤ length lent.now }
-    ensures { result ≡ is_empty (slot_of (part a 10 lent.now)) }
-{
-    slot_from(lent, a).is_empty()
 }

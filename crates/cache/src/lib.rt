@@ -2,6 +2,8 @@
 #![tactic(auto)]
 
 pub mod caches;
+pub mod coded;
 pub mod content;
+pub mod index;
 pub mod lookup;
 pub mod slot;

@@ -15,9 +15,16 @@ pub struct Content {
     pub words: [u32; 8],
 }
 
-// A line that a cache lacks, and whether it is lacked to write.
+// What a line is asked for.
+#[derive(Clone, Copy)]
+pub enum Access {
+    Read,
+    Write,
+}
+
+// A line that a cache lacks, and what it is lacked for.
 #[derive(Clone, Copy)]
 pub struct Lack {
     pub line: u32,
-    pub write: bool,
+    pub access: Access,
 }

@@ -2,8 +2,8 @@
 use Rattle.std.proofs.Common.{ap₂}
 use Rattle.words.specs.Parts.{part}
 use Rattle.cache.specs.Words.{holding}
-use Rattle.cache.proofs.content.read_content.Goals as goal
+use Rattle.cache.proofs.content.SlotsTable.read.Goals as goal
 
 pub returns : goal.returns
 unfolding part
-returns c = ap₂ holding c.tag.ensures c.copy_from_slice.ensures.after
+returns c k = ap₂ holding (c.read.ensures k) c.copy_from_slice.ensures.after

@@ -1,9 +1,0 @@
--- The tag says it, whatever the words are.
-use Rattle.std.proofs.Common.{sym, ap, ◌∙◌}
-use Rattle.words.specs.Parts.{part}
-use Rattle.cache.specs.Slots.{is_empty, words}
-use Rattle.cache.specs.Words.{slot_of}
-use Rattle.cache.proofs.content.is_empty_from.Goals as goal
-
-pub returns : goal.returns
-returns c = sym (c.is_empty.ensures (words (slot_of (part c.args.a 10 c.args.lent.now)))) ∙ ap is_empty c.slot_from.ensures
