@@ -1,16 +1,15 @@
 -- The words of a slot that are written, read back; and what that leaves of a cache.
-use Rattle.std.proofs.Common.{◌≡◌, ℕ, ◌+◌, ◌*◌, ◌<◌, ◌≤◌, Bool, true, false, ltb, List, length, get_or, sym, refl, ap, ◌∙◌, ap₂, inl, inr, arith}
+use Rattle.std.proofs.Common.{◌≡◌, ℕ, ◌+◌, ◌*◌, ◌<◌, ◌≤◌, Bool, true, false, ltb, List, length, get_or, sym, refl, ap, ◌∙◌, inl, inr, arith}
 use mathlib.Core.Path.{fun_ext}
 use borrow.Rule.Slice.PartMut.{put_mid}
 use Rattle.std.proofs.lemmas.Bool.{cases_eq, cases_lt, lt-ltb, le-ltb, eq-eqb, ne_eqb}
 use Rattle.words.specs.Parts.{part, block}
-use Rattle.words.proofs.Parts.{part_here, part_other, apart, part_word, word_below}
+use Rattle.words.proofs.Parts.{part_here, part_other, apart, part_word}
 use Rattle.cores.specs.Machines.{pick}
 use Rattle.cores.specs.Put.{put}
 use Rattle.cache.specs.Slots.{empty, words}
 use Rattle.cache.specs.Slots as slots
 use Rattle.cache.specs.Words.{holding, tag_of, slot_of, table_of, caches_of}
-use Rattle.cache.specs.declared.slot.Slot.{Slot}
 
 pub picked : {A : Type 0} (b : Bool) (x y : A) → b ≡ true → pick b x y ≡ x
 picked b x y e = ap (λ t. pick t x y) e
@@ -23,12 +22,9 @@ pub put_is : {A : Type 0} (f g : ℕ → A) (k : ℕ) (v : A) → g k ≡ v → 
 put_is f g k v h o =
     fun_ext (λ j. elim (cases_eq j k) [ inl e ↦ rw e (h ∙ sym (picked _ _ _ (eq-eqb k k refl))) | inr ne ↦ o j ne ∙ sym (unpicked _ _ _ (ne_eqb j k ne)) ])
 
--- ten words, the tag written first
-pub slot_written : (b zs w : List ℕ) (s : Slot) → length b ≡ 10 → tag_of (get_or b 0 0) (get_or b 1 0) ≡ s → length zs ≡ 8 → zs ≡ w → slot_of (put_mid 2 8 b zs) ≡ holding s w
-slot_written b zs w s n e h f =
-    let kind : get_or (put_mid 2 8 b zs) 0 0 ≡ get_or b 0 0 = word_below 2 8 b zs 0 0 (omega arith) (omega arith) in
-    let line : get_or (put_mid 2 8 b zs) 1 0 ≡ get_or b 1 0 = word_below 2 8 b zs 1 0 (omega arith) (omega arith) in
-    ap₂ holding (ap₂ tag_of kind line ∙ e) (part_here 2 8 8 b zs h (omega arith) ∙ f)
+-- the words of a line that is written
+pub line_written : (b zs : List ℕ) → length zs ≡ 8 → length b ≡ 10 → part 2 8 (put_mid 2 8 b zs) ≡ zs
+line_written b zs h n = part_here 2 8 8 b zs h (omega arith)
 
 -- a table of m slots, after slot i was written
 pub table_written : (m : ℕ) (w ys : List ℕ) (i n : ℕ) (x : slots.Slot) → i < m → 10 * i + 10 ≤ length w → length ys ≡ 10 → n ≡ 10 → slot_of ys ≡ x →

@@ -1,5 +1,6 @@
 // A slot with its words, by value: what it is after a step, and what memory gets of it; and the tables that slots lie in.
-ghost use Rattle.std.specs.Prelude.{◌≡◌, ℕ, true, false, List, [], ◌∷◌, slice_index};
+ghost use Rattle.std.specs.Prelude.{◌≡◌, ℕ, true, false, List, [], ◌∷◌, length, slice_index};
+ghost use Rattle.words.specs.Parts.{part};
 ghost use Rattle.cores.specs.Ports.{line_of, somes};
 ghost use Rattle.cache.specs.Slots as slots;
 ghost use Rattle.cache.specs.Slots.{back, has, holds, is_empty, lowered, owns, raised, words as eight_words};
@@ -101,6 +102,42 @@ impl Content {
     }
 }
 
+// What ten words of a slot say of it without its words.
+fn tag_in(block: &[u32]) -> Slot
+    requires { length block.now ≡ 10 }
+    ensures { result ≡ tag_of (slice_index block.now 0) (slice_index block.now 1) }
+{
+    Slot::from([block[0], block[1]])
+}
+
+// The words of its line.
+#[tactic(auto, unfolding(words::specs::Parts::part))]
+fn line_in(block: &[u32]) -> [u32; 8]
+    requires { length block.now ≡ 10 }
+    ensures { result ≡ part 2 8 block.now }
+{
+    let mut line = [0; 8];
+    line.copy_from_slice(&block[2..10]);
+    line
+}
+
+fn put_tag(block: &mut [u32], slot: Slot)
+    requires { length block.old ≡ 10 }
+    ensures { tag_of (slice_index block.new 0) (slice_index block.new 1) ≡ slot }
+{
+    block[0..2].copy_from_slice(&<[u32; 2]>::from(slot));
+}
+
+#[tactic(auto, using(crate::proofs::Written::line_written))]
+fn put_line(block: &mut [u32], line: [u32; 8])
+    requires { length block.old ≡ 10 }
+    ensures line { part 2 8 block.new ≡ line }
+    ensures kind { slice_index block.new 0 ≡ slice_index block.old 0 }
+    ensures number { slice_index block.new 1 ≡ slice_index block.old 1 }
+{
+    block[2..10].copy_from_slice(&line);
+}
+
 // Slots without their words, in a table of slots.
 pub struct Tags;
 
@@ -118,11 +155,11 @@ impl Table for Tags {
     ghost said = { λ _ words. tag_of (slice_index words 0) (slice_index words 1) };
 
     fn read(block: &[u32]) -> Slot {
-        Slot::from([block[0], block[1]])
+        tag_in(block)
     }
 
     fn write(block: &mut [u32], slot: Slot) {
-        block[0..2].copy_from_slice(&<[u32; 2]>::from(slot));
+        put_tag(block, slot);
     }
 }
 
@@ -143,16 +180,14 @@ impl Table for Slots {
     ghost said = { λ _. slot_of };
 
     fn read(block: &[u32]) -> Content {
-        let mut words = [0; 8];
-        words.copy_from_slice(&block[2..10]);
         Content {
-            slot: Tags::read(block),
-            words,
+            slot: tag_in(block),
+            words: line_in(block),
         }
     }
 
     fn write(block: &mut [u32], content: Content) {
-        Tags::write(block, content.slot);
-        block[2..10].copy_from_slice(&content.words);
+        put_tag(block, content.slot);
+        put_line(block, content.words);
     }
 }

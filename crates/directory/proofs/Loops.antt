@@ -1,8 +1,9 @@
--- None of the first cores has a line, or a request for it under way: each of them says so, or one of them decides.
-use Rattle.std.proofs.Common.{◌≡◌, ℕ, suc, ◌<◌, Bool, true, false, ◌||◌, refl}
+-- None of four cores has a line, or a request for it under way.
+use Rattle.std.proofs.Common.{◌≡◌, ℕ, suc, Bool, true, false, not, ◌||◌, refl, sym}
+use Rattle.std.specs.List.{list_all, range_with_len}
 use Rattle.cores.specs.Machines.{pick}
 use Rattle.cache.specs.Slots.{home}
-use Rattle.link.proofs.Tables.{none_all, none_not}
+use Rattle.link.proofs.Tables.{none_of_four}
 use Rattle.directory.specs.Directory.{Entry, Request, busy, free, held, keeps, unhurried}
 
 either : (x y z : Bool) → pick x false (pick y false z) ≡ pick (x || y) false z
@@ -18,11 +19,8 @@ module _ (e : ℕ → Entry) (a : ℕ) where
   unfolding free
   free_more n = either (held (e (home n a)) a) (held (e (suc (home n a))) a) (free e a n)
 
-  pub free_all : (n : ℕ) → ((k : ℕ) → k < n → keeps e a k ≡ false) → free e a n ≡ true
-  free_all = none_all (keeps e a) (free e a) free_none free_more
-
-  pub free_not : (n k : ℕ) → k < n → keeps e a k ≡ true → free e a n ≡ false
-  free_not = none_not (keeps e a) (free e a) free_none free_more
+  pub free_four : list_all (λ j. not (keeps e a j)) (range_with_len 0 4) ≡ free e a 4
+  free_four = sym (none_of_four (keeps e a) (free e a) free_none free_more)
 
 module _ (r : ℕ → Request) (a : ℕ) where
   unhurried_none : unhurried r a 0 ≡ true
@@ -33,8 +31,5 @@ module _ (r : ℕ → Request) (a : ℕ) where
   unfolding unhurried
   unhurried_more n = refl
 
-  pub unhurried_all : (n : ℕ) → ((k : ℕ) → k < n → busy (r k) a ≡ false) → unhurried r a n ≡ true
-  unhurried_all = none_all (λ k. busy (r k) a) (unhurried r a) unhurried_none unhurried_more
-
-  pub unhurried_not : (n k : ℕ) → k < n → busy (r k) a ≡ true → unhurried r a n ≡ false
-  unhurried_not = none_not (λ k. busy (r k) a) (unhurried r a) unhurried_none unhurried_more
+  pub unhurried_four : list_all (λ k. not (busy (r k) a)) (range_with_len 0 4) ≡ unhurried r a 4
+  unhurried_four = sym (none_of_four (λ k. busy (r k) a) (unhurried r a) unhurried_none unhurried_more)

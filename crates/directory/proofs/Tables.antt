@@ -9,7 +9,8 @@ use Rattle.link.specs.Messages.{Probe, ask, unasked}
 use Rattle.link.specs.Words.{flag}
 use Rattle.link.proofs.Tables.{table_cleared}
 use Rattle.directory.specs.Directory.{held, idle, nobody, question}
-use Rattle.directory.specs.Words.{access_in, entries_of, entry_in, entry_of, request_in, request_of, requests_of, stage_in}
+use Rattle.cache.specs.Words.{access_in}
+use Rattle.directory.specs.Words.{entries_of, entry_in, entry_of, request_in, request_of, requests_of, stage_in}
 use Rattle.directory.specs.declared.entry.Entry.TheVariants.{Nobody, Shared, Owned}
 
 -- words that are all 0 are tables in which nobody has a line, or has asked for one

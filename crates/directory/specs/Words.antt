@@ -1,14 +1,13 @@
 -- How the directory's tables lie in lent words, a word for each field, and what the code's values of them mean.
 -- Every content of the words is a table. Assumes nothing: these are definitions.
-use Rattle.std.specs.Prelude.{ℕ, ◌+◌, ◌*◌, ◌%◌, ◌<◌, Bool, true, false, List, Some, None, Option, ◌==◌, nat_lt, slice_index}
+use Rattle.std.specs.Prelude.{ℕ, ◌+◌, ◌*◌, ◌%◌, true, false, List, Some, None, Option, ◌==◌, nat_lt, slice_index}
 use Rattle.words.specs.Parts.{block}
 use Rattle.cores.specs.Machines.{pick}
+use Rattle.cache.specs.Words.{access_in, is_write}
 use Rattle.link.specs.Words.{flag}
 use Rattle.directory.specs.Directory as known
 use Rattle.directory.specs.declared.entry.Entry.{Entry}
 use Rattle.directory.specs.declared.entry.Entry.TheVariants.{Nobody, Shared, Owned}
-use Rattle.directory.specs.declared.request.Access.{Access}
-use Rattle.directory.specs.declared.request.Access.TheVariants.{Read, Write}
 use Rattle.directory.specs.declared.request.Stage.{Stage}
 use Rattle.directory.specs.declared.request.Stage.TheVariants.{Queued, Probing, Fetching}
 use Rattle.directory.specs.declared.request.Request.{Request}
@@ -27,10 +26,6 @@ entry_in b = pick (slice_index b 0 == 0) Nobody (pick (slice_index b 0 == 1) (Sh
 abbrev pub entries_of : List ℕ → ℕ → known.Entry
 entries_of w p = pick (nat_lt p 256) (entry_of (entry_in (block 2 w p))) known.nobody
 
-abbrev pub is_write : Access → Bool
-is_write Read = false
-is_write Write = true
-
 abbrev pub stage_of : Stage → known.Stage
 stage_of Queued = known.queued
 stage_of Probing = known.probing
@@ -40,9 +35,6 @@ stage_of Fetching = known.fetching
 abbrev pub request_of : ℕ → Option Request → known.Request
 request_of k None = known.idle
 request_of k (Some r) = known.wants r.line (is_write r.access) (64 * k + r.slot) (stage_of r.stage)
-
-abbrev pub access_in : ℕ → Access
-access_in x = pick (x == 0) Read Write
 
 abbrev pub stage_in : ℕ → Stage
 stage_in x = pick (x == 0) Queued (pick (x == 1) Probing Fetching)
@@ -56,8 +48,3 @@ request_in b =
 -- four requests; nothing is asked for beyond
 abbrev pub requests_of : List ℕ → ℕ → known.Request
 requests_of w k = pick (nat_lt k 4) (request_of k (request_in (block 5 w k))) known.idle
-
--- the slot of a request is one of a cache
-abbrev pub Inside : Option Request → Type 0
-Inside None = Unit {0}
-Inside (Some r) = r.slot < 64

@@ -1,11 +1,14 @@
--- No core has the line, or one that has it decides.
-use Rattle.std.proofs.Common.{sym, arith}
+-- None of the four has the line.
+use Rattle.std.proofs.Common.{not, ◌∙◌, refl, rules}
+use Rattle.std.proofs.lemmas.Iterator.{YieldsList-from_range}
+use Rattle.std.proofs.lemmas.Iterator.Search.{all_from_yields_List}
+use Rattle.directory.specs.Directory.{keeps}
 use Rattle.directory.specs.Words.{entries_of}
-use Rattle.directory.proofs.Loops.{free_all, free_not}
+use Rattle.directory.proofs.Loops.{free_four}
 use Rattle.directory.proofs.entry.is_free.Goals as goal
 
 pub returns : goal.returns
-returns c = sym (free_all (entries_of c.args.entries.now) c.args.line 4 (λ i h. c.loop-j.invariant i (omega arith)))
-
-pub returns-then-keeps : goal.returns-then-keeps
-returns-then-keeps c = sym (free_not (entries_of c.args.entries.now) c.args.line 4 c.loop-j.j (omega arith) (cc))
+returns c =
+    let e = entries_of c.args.entries.now in
+    all_from_yields_List (λ j. not (keeps e c.args.line j)) _ _ c.all.result c.all.ensures.ran (YieldsList-from_range 0 4 4 refl refl) (λ x b q k. search rules)
+    ∙ free_four e c.args.line
