@@ -10,6 +10,8 @@ use Rattle.cores.specs.Put.{put}
 use Rattle.cache.specs.Slots.{empty, words}
 use Rattle.cache.specs.Slots as slots
 use Rattle.cache.specs.Words.{holding, tag_of, slot_of, table_of, caches_of}
+use Rattle.cache.specs.declared.slot.Slot.{Slot}
+use Rattle.cache.specs.declared.slot.Slot.TheVariants.{Empty, Shared, Owned}
 
 pub picked : {A : Type 0} (b : Bool) (x y : A) → b ≡ true → pick b x y ≡ x
 picked b x y e = ap (λ t. pick t x y) e
@@ -43,3 +45,12 @@ caches_clear w h = fun_ext (λ p. elim (cases_lt p 256) [ inl l ↦ picked _ _ _
     clear p l =
         let kind : get_or (block 10 w p) 0 0 ≡ 0 = part_word (10 * p) 10 w 0 0 (omega arith) ∙ ap (λ j. get_or w j 0) (omega arith) ∙ h p l in
         ap (λ k. holding (tag_of k (get_or (block 10 w p) 1 0)) (part 2 8 (block 10 w p))) kind
+
+-- a tag alone, with the words of its slot, is the slot
+pub tag_of_slot : (b : List ℕ) (s : Slot) (x : slots.Slot) → s ≡ tag_of (get_or b 0 0) (get_or b 1 0) → slot_of b ≡ x → holding s (words x) ≡ x
+tag_of_slot b s x e f = rw (← f, e) (tag_alone (tag_of (get_or b 0 0) (get_or b 1 0)) (part 2 8 b))
+  where
+    tag_alone : (t : Slot) (w : List ℕ) → holding t (words (holding t w)) ≡ holding t w
+    tag_alone Empty w = refl
+    tag_alone (Shared a) w = refl
+    tag_alone (Owned a d) w = refl

@@ -83,7 +83,8 @@ fn store_at(cache: &mut [u32; 640], i: SlotIndex, number: u32, value: u32)
 
 // The word of that number is the value from now on, where its line is in the cache.
 pub fn store(cache: &mut [u32; 640], number: u32, value: u32)
-    ensures { slots_of cache.new ≡ stored_in (slots_of cache.old) 0 number value }
+    ensures value { slots_of cache.new ≡ stored_in (slots_of cache.old) 0 number value }
+    ensures long { length cache.new ≡ 640 }
 {
     if let Some(i) = find(cache, number / 8) {
         store_at(cache, i, number, value);

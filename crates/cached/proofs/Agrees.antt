@@ -10,7 +10,8 @@ use Rattle.cores.specs.Put.{put}
 use Rattle.cores.proofs.Basics.{by_test, set_put, with_lines_append, with_lines_length, same, less, append_nil}
 use Rattle.cores.proofs.Machines.{events_append, did_step, did_interrupt, after_core, after_many}
 use Rattle.cores.proofs.Memory.{memory_set, memory_line}
-use Rattle.cached.specs.Soc.{State, execute, hand_on, release, take_interrupt, moves, requeue, share_on, spoken, stay, take_grant, downgrade}
+use Rattle.cores.specs.Ports.{spoken}
+use Rattle.cached.specs.Soc.{State, execute, hand_on, release, take_interrupt, moves, requeue, share_on, stay, take_grant, downgrade}
 use Rattle.cached.specs.Coherent.{Fair, Good, Shape, view, Asks, Clear, Safe}
 use Rattle.directory.specs.Directory.{Entry, Request, busy, fetching, free, held, idle, nobody, owned, probing, queued, tag, wants}
 use Rattle.cached.specs.Kind.{Kind, Laws, Leaves}

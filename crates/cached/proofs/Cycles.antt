@@ -1,7 +1,9 @@
 -- The steps of a cycle, one after another: what the cores say and do, whom they ask, and the turn.
-use Rattle.std.proofs.Common.{◌≡◌, ℕ, zero, suc, ◌+◌, ◌*◌, ◌<◌, ◌≤◌, Bool, true, false, cond, ◌||◌, eqb, ltb, ◌≢◌, List, [], ◌∷◌, ◌++◌, length, get_or, drop, set, replicate, Some, None, Option, sym, refl, ap, ◌∙◌, inl, inr, add-one, arith}
+use Rattle.std.proofs.Common.{◌≡◌, ℕ, zero, suc, ◌+◌, ◌-◌, ◌*◌, ◌<◌, ◌≤◌, Bool, true, false, cond, ◌||◌, eqb, ltb, ◌≢◌, List, [], ◌∷◌, ◌++◌, length, get_or, set, replicate, Some, None, Option, sym, refl, ap, ◌∙◌, inl, inr, add-one, ◌==◌, arith}
 use mathlib.Core.Path.{fun_ext}
-use Rattle.std.proofs.lemmas.List.{at_drop_more, at_drop_all, get_or-set_same, get_or-set_other}
+use borrow.Rule.Slice.PartMut.{put_mid}
+use Rattle.std.specs.List.{list_any}
+use Rattle.std.proofs.lemmas.List.{get_or-set_same, get_or-set_other}
 use Rattle.std.proofs.lemmas.Bool.{cases_eq, cases_lt, lt-ltb, le-ltb, eq-eqb, ne_eqb}
 use Rattle.cores.specs.Board.{Out}
 use Rattle.cores.specs.Loop.{Step, silent, joined, then, each}
@@ -26,34 +28,13 @@ use Rattle.cached.specs.declared.control.Acted.{Acted}
 use Rattle.cached.specs.declared.control.Control.{Control}
 use Rattle.cached.proofs.Sequence.{then_is, each_more, somes_set}
 
--- an event that is looked at
-or_false : (b : Bool) → (b || false) ≡ b
-or_false true = refl
-or_false false = refl
-
-steps_is : (k : ℕ) (o : Option Event) → is_step k o ≡ stepped k (somes event_of (o ∷ []))
+-- an instruction of core k is among events
+pub any_step : (k : ℕ) (es : List (Option Event)) → list_any (is_step k) es ≡ stepped k (somes event_of es)
 unfolding stepped
-steps_is k None = refl
-steps_is k (Some (port.Step j)) = sym (or_false (eqb j k))
-steps_is k (Some (port.Interrupt j)) = refl
-
-look_at : (k : ℕ) (o : Option Event) (es : List (Option Event)) → stepped k (somes event_of (o ∷ es)) ≡ (stepped k (somes event_of (o ∷ [])) || stepped k (somes event_of es))
-unfolding stepped
-look_at k None es = refl
-look_at k (Some (port.Step j)) es = ap (λ b. b || stepped k (somes event_of es)) (sym (or_false (eqb j k)))
-look_at k (Some (port.Interrupt j)) es = refl
-
-pub looked : (k : ℕ) (b r : Bool) (es : List (Option Event)) (i : ℕ) (d : Option Event) → i < length es → b ≡ is_step k (get_or es i d) →
-    stepped k (somes event_of (drop i es)) ≡ r → (b || stepped k (somes event_of (drop (i + 1) es))) ≡ r
-looked k b r es i d h e p =
-    ap (λ x. x || stepped k (somes event_of (drop (i + 1) es))) (e ∙ steps_is k (get_or es i d))
-    ∙ sym (look_at k (get_or es i d) (drop (i + 1) es))
-    ∙ sym (at_drop_more (λ xs. stepped k (somes event_of xs)) es i d h)
-    ∙ p
-
-pub looked_all : (k : ℕ) (r : Bool) (es : List (Option Event)) (i : ℕ) → length es ≤ i → stepped k (somes event_of (drop i es)) ≡ r → false ≡ r
-unfolding stepped
-looked_all k r es i h p = sym (at_drop_all (λ xs. stepped k (somes event_of xs)) es i h) ∙ p
+any_step k [] = refl
+any_step k (None ∷ es) = any_step k es
+any_step k (Some (port.Step j) ∷ es) = ap (λ b. j == k || b) (any_step k es)
+any_step k (Some (port.Interrupt j) ∷ es) = any_step k es
 
 -- two rows, one after the other
 pub somes_append : {A B : Type 0} (of : A → B) (xs ys : List (Option A)) → somes of (xs ++ ys) ≡ somes of xs ++ somes of ys
@@ -61,20 +42,13 @@ somes_append of [] ys = refl
 somes_append of (None ∷ xs) ys = somes_append of xs ys
 somes_append {A} {B} of (Some x ∷ xs) ys = ap {B = List B} (λ bs. of x ∷ bs) (somes_append of xs ys)
 
-four : {A : Type 0} (l : List A) (d : A) → length l ≡ 4 → l ≡ get_or l 0 d ∷ get_or l 1 d ∷ get_or l 2 d ∷ get_or l 3 d ∷ []
-four [] d h = absurd (omega arith)
-four (a ∷ []) d h = absurd (omega arith)
-four (a ∷ b ∷ []) d h = absurd (omega arith)
-four (a ∷ b ∷ c ∷ []) d h = absurd (omega arith)
-four (a ∷ b ∷ c ∷ e ∷ []) d h = refl
-four (a ∷ b ∷ c ∷ e ∷ f ∷ l) d h = absurd (omega arith)
-
-pub both_rows : (xs ys : List (Option Line)) (d : Option Line) → length xs ≡ 4 → length ys ≡ 4 →
-    somes line_of (get_or xs 0 d ∷ get_or xs 1 d ∷ get_or xs 2 d ∷ get_or xs 3 d ∷ get_or ys 0 d ∷ get_or ys 1 d ∷ get_or ys 2 d ∷ get_or ys 3 d ∷ []) ≡ somes line_of xs ++ somes line_of ys
-both_rows xs ys d h g =
-    ap (λ zs. somes line_of (get_or xs 0 d ∷ get_or xs 1 d ∷ get_or xs 2 d ∷ get_or xs 3 d ∷ zs)) (sym (four ys d g))
-    ∙ ap (λ zs. somes line_of (zs ++ ys)) (sym (four xs d h))
-    ∙ somes_append line_of xs ys
+pub both_rows : (xs ys : List (Option Line)) → length xs ≡ 4 → somes line_of (put_mid 4 4 (xs ++ None ∷ None ∷ None ∷ None ∷ []) ys) ≡ somes line_of xs ++ somes line_of ys
+both_rows [] ys e = absurd (omega arith)
+both_rows (a ∷ []) ys e = absurd (omega arith)
+both_rows (a ∷ b ∷ []) ys e = absurd (omega arith)
+both_rows (a ∷ b ∷ c ∷ []) ys e = absurd (omega arith)
+both_rows (a ∷ b ∷ c ∷ d ∷ []) ys e = ap (λ zs. somes line_of (a ∷ b ∷ c ∷ d ∷ zs)) (append_nil ys) ∙ somes_append line_of (a ∷ b ∷ c ∷ d ∷ []) ys
+both_rows (a ∷ b ∷ c ∷ d ∷ f ∷ xs) ys e = absurd (omega arith)
 
 -- the words of a core that says one, or none
 module _ (w : List ℕ) (k : ℕ) (h : k < 4) (l : length w ≡ 8) where
@@ -186,30 +160,26 @@ asks_all w a o =
     all_asked (part 237 512 w) a o (λ i. pick (ltb i 4) (question (state_of w).lines.entry a o i) ((state_of w).hints.probe i))
     (λ j l. picked _ _ _ (lt-ltb j 4 l)) (λ j g. unpicked _ _ _ (le-ltb j 4 g) ∙ unasked_beyond (part 205 12 w) j g)
 
--- whose request is started: the cores are asked in the order of their turns
-next_of : (h : State rv) (u v w : ℕ) → u ≡ around h.count (h.hints.turn + 1) → v ≡ around h.count (u + 1) → w ≡ around h.count (v + 1) →
-    pick (can_start rv h h.hints.turn) h.hints.turn (pick (can_start rv h u) u (pick (can_start rv h v) v w)) ≡ next_start rv h
-next_of h u v w p q r =
-    let f : ℕ → ℕ = λ x. around h.count (suc x) in
-    let g : (x : ℕ) → around h.count (x + 1) ≡ f x = λ x. ap (around h.count) (add-one x) in
-    let a : u ≡ f h.hints.turn = p ∙ g h.hints.turn in
-    let b : v ≡ f (f h.hints.turn) = q ∙ g u ∙ ap f a in
-    let c : w ≡ f (f (f h.hints.turn)) = r ∙ g v ∙ ap f b in
-    λ i. pick (can_start rv h h.hints.turn) h.hints.turn (pick (can_start rv h (a i)) (a i) (pick (can_start rv h (b i)) (b i) (c i)))
-
 around_small : (n t : ℕ) → n ≤ 4 → around n t < 4
 around_small n t h = elim (cases_lt t n) [ inl l ↦ rw (lt-ltb t n l) (omega arith) | inr g ↦ rw (le-ltb t n g) (omega arith) ]
 
-pub next_last : (h : State rv) (s : Control) (u v w : ℕ) (b : Bool) → s ≡ shared h → s.count ≤ 4 → u ≡ around s.count (s.turn + 1) → v ≡ around s.count (u + 1) → w ≡ around s.count (v + 1) →
-    can_start rv h s.turn ≡ false → can_start rv h u ≡ false → can_start rv h v ≡ b → (pick b v w ≡ next_start rv h) × (v < 4) × (w < 4)
-next_last h s u v w b e n p q r x y z =
-    let c : s.count ≡ h.count = ap (λ (t : Control). t.count) e in
-    let t : s.turn ≡ h.hints.turn = ap (λ (t : Control). t.turn) e in
-    let p' : u ≡ around h.count (h.hints.turn + 1) = p ∙ (λ i. around (c i) (t i + 1)) in
-    let q' : v ≡ around h.count (u + 1) = q ∙ ap (λ m. around m (u + 1)) c in
-    let r' : w ≡ around h.count (v + 1) = r ∙ ap (λ m. around m (v + 1)) c in
-    let x' : can_start rv h h.hints.turn ≡ false = ap (can_start rv h) (sym t) ∙ x in (
-      sym (unpicked _ _ _ x' ∙ unpicked _ _ _ y ∙ ap (λ k. pick k v w) z) ∙ next_of h u v w p' q' r',
-      rw q (around_small s.count (u + 1) n),
-      rw r (around_small s.count (v + 1) n),
-    )
+-- the first core of n, from core t on, whose request can be started; or the one after them
+abbrev next_from : State rv → ℕ → ℕ → ℕ
+next_from h zero t = t
+next_from h (suc n) t = pick (can_start rv h t) t (next_from h n (around h.count (suc t)))
+
+-- i cores have been asked, and core t is the next in the order of their turns
+abbrev pub Looking : State rv → ℕ → ℕ → Type 0
+Looking h i t = (t < 4) × ((n : ℕ) → n + i ≡ 3 → next_from h n t ≡ next_start rv h)
+
+pub looking_first : (h : State rv) (s : Control) → s ≡ shared h → s.turn < 4 → Looking h 0 s.turn
+looking_first h s e l = (l, λ n m. let three : n ≡ 3 = omega arith in ap (λ i. next_from h i s.turn) three ∙ ap (λ (c : Control). next_from h 3 c.turn) e)
+
+pub looking_next : (h : State rv) (i t u : ℕ) (s : Control) → s ≡ shared h → s.count ≤ 4 → can_start rv h t ≡ false → u ≡ around s.count (t + 1) → Looking h i t → Looking h (i + 1) u
+looking_next h i t u s e m none p l = (
+  rw p (around_small s.count (t + 1) m),
+  λ n r. ap (next_from h n) (p ∙ (λ j. around (e j).count (add-one t j))) ∙ sym (unpicked _ _ _ none) ∙ l.1 (suc n) (omega arith),
+)
+
+pub looking_found : (h : State rv) (i t : ℕ) → i < 3 → can_start rv h t ≡ true → Looking h i t → t ≡ next_start rv h
+looking_found h i t m e l = sym (picked _ _ _ e) ∙ l.1 (suc (2 - i)) (omega arith)

@@ -12,6 +12,7 @@ use Rattle.rv32.specs.declared.instruction.Instruction.{Instruction}
 use Rattle.rv32.proofs.Laws.{done}
 use Rattle.cache.specs.Own.{Own}
 use Rattle.cache.specs.Slots.{Slot, Lack, cached, chosen, find, first, goes_first, home, lacks, line_of, ready, seek}
+use Rattle.cache.specs.Words.{is_write}
 use Rattle.cache.specs.declared.slot.Lack as code_lack
 use Rattle.cache.proofs.Own.{cached_own, choose_own, seek_own}
 use Rattle.cached.specs.Kind.{code, needed, operand, to_fetch}
@@ -51,8 +52,8 @@ module _ (h : State rv) (k : ℕ) (g : ℕ → Slot) (o : Own k h.lines.slot g) 
       ∙ (λ i. first (seek_own k h.lines.slot g o (code rv h.size (h.cpu k)) i) (seek_own k h.lines.slot g o (operand rv h.size (h.cpu k) (cached g 0)) i))
 
   pub tried_own : (n : ℕ) (c : Core) (r : Result Effect code_lack.Lack) → n ≡ h.size → c ≡ h.cpu k →
-      MatchResult r (λ e. (lacking n c g ≡ ready) × (did e ≡ one n c (cached g 0))) (λ l. lacking n c g ≡ lacks l.line l.write) →
-      MatchResult r (λ e. (lacked rv h k ≡ ready) × (did e ≡ one h.size (h.cpu k) (cached h.lines.slot k))) (λ l. lacked rv h k ≡ lacks l.line l.write)
+      MatchResult r (λ e. (lacking n c g ≡ ready) × (did e ≡ one n c (cached g 0))) (λ l. lacking n c g ≡ lacks l.line (is_write l.access)) →
+      MatchResult r (λ e. (lacked rv h k ≡ ready) × (did e ≡ one h.size (h.cpu k) (cached h.lines.slot k))) (λ l. lacked rv h k ≡ lacks l.line (is_write l.access))
   tried_own n c (Ok e) p q u = (
     lacked_own ∙ (λ i. lacking (sym p i) (sym q i) g) ∙ u.0,
     u.1 ∙ (λ i. one (p i) (q i) (sym reads i)),

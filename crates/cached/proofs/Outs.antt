@@ -7,7 +7,8 @@ use Rattle.cores.specs.Machines.{Event, step, interrupt, steps, interrupts, pick
 use Rattle.cores.specs.Put.{put}
 use Rattle.cores.proofs.Basics.{choose, same, differ, append_nil}
 use Rattle.cores.proofs.Machines.{steps_append, interrupts_append}
-use Rattle.cached.specs.Soc.{State, requeue, hand_on, share_on, deliver, take_due, drop_probe, lets_go, requeue_lead, answer, answer_probe, act, can_start, next_start, start_request, start_at, start_next, take_all, answer_all, act_all, body, cycle, moves, release, downgrade, spoken, way_for}
+use Rattle.cores.specs.Ports.{spoken}
+use Rattle.cached.specs.Soc.{State, requeue, hand_on, share_on, deliver, take_due, drop_probe, lets_go, requeue_lead, answer, answer_probe, act, can_start, next_start, start_request, start_at, start_next, take_all, answer_all, act_all, body, cycle, moves, release, downgrade, way_for}
 use Rattle.directory.specs.Directory.{nobody, Request, idle, wants, queued, probing, fetching, free}
 use Rattle.cached.specs.Kind.{Kind}
 use Rattle.cached.specs.Lines.{Lines, grants}

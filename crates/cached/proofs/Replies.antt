@@ -6,11 +6,11 @@ use Rattle.cores.specs.Machines.{pick}
 use Rattle.cores.specs.Put.{put}
 use Rattle.cores.specs.declared.port.Line.{Line}
 use Rattle.cache.specs.Slots.{has}
+use Rattle.cache.specs.Words.{is_write}
 use Rattle.cache.proofs.Written.{picked, unpicked}
 use Rattle.link.specs.Messages.{unasked}
 use Rattle.link.specs.Words.{probe_of}
 use Rattle.link.specs.declared.probe.Probe.{Probe}
-use Rattle.link.specs.declared.probe.Probe.TheVariants.{Invalidate, Downgrade}
 use Rattle.cached.specs.Layout.{with_asked}
 use Rattle.cached.specs.Puts.{only_writes}
 use Rattle.cached.specs.Replied.{replies}
@@ -31,5 +31,4 @@ module _ (h s t u : State rv) (k : ℕ) (w : Option Line) (e : s ≡ with_asked 
       ∙ then_is (drop_probe rv k) (requeue_lead rv) h s u silent silent (ap (λ (v : State rv). (v, silent)) e) (b ∙ ap (λ (v : State rv × Out). requeue_lead rv v.0) same)
 
   pub answered : (p : Probe) → h.hints.due k ≡ false → probe_of k (Some p) ≡ h.hints.probe k → (t, only_writes w) ≡ replies k p s → (u, only_writes w) ≡ answer_probe rv k h
-  answered (Invalidate i a) f g r = then_replied (64 * k + i) a true _ refl r ∙ ap (λ v. answer rv k v h) g ∙ sym (unpicked _ _ _ f)
-  answered (Downgrade i a) f g r = then_replied (64 * k + i) a false _ refl r ∙ ap (λ v. answer rv k v h) g ∙ sym (unpicked _ _ _ f)
+  answered p f g r = then_replied (64 * k + p.slot) p.line (is_write p.access) _ refl r ∙ ap (λ v. answer rv k v h) g ∙ sym (unpicked _ _ _ f)

@@ -1,69 +1,46 @@
 -- The words that are written, read back as parts of the chip's state.
-use Rattle.std.proofs.Common.{◌≡◌, ℕ, zero, suc, ◌+◌, ◌*◌, ◌%◌, ◌<◌, ◌≤◌, min, Bool, true, false, ◌&&◌, ltb, ◌⊎◌, List, [], ◌∷◌, length, get_or, take, drop, set, sym, refl, ap, ◌∙◌, inl, inr, arith}
+use Rattle.std.proofs.Common.{◌≡◌, ℕ, zero, suc, ◌+◌, ◌*◌, ◌%◌, ◌<◌, ◌≤◌, min, ltb, ◌⊎◌, List, [], ◌∷◌, length, get_or, take, drop, sym, refl, ap, ◌∙◌, inl, inr, arith}
+use mathlib.Core.Path.{fun_ext}
 use borrow.Rule.Slice.PartMut.{put_mid}
 use mir.Val.{bool_byte}
-use Rattle.std.proofs.lemmas.List.{take_at, get_or-set_same, get_or-set_other}
 use Rattle.std.proofs.lemmas.Bool.{cases_eq, cases_order, lt-ltb}
-use Rattle.words.specs.Parts.{part, block}
-use Rattle.words.proofs.Parts.{part_is, part_here, part_other, part_part, apart}
-use Rattle.rv32.specs.Execute.{start}
-use Rattle.rv32.specs.declared.core_state.Core.{Core}
+use Rattle.words.specs.Parts.{part, block, table}
+use Rattle.words.proofs.Parts.{part_is, part_here, part_other, part_part, part_word, apart}
+use Rattle.words.proofs.Tables.{within, within_written}
 use Rattle.cores.specs.Machines.{pick}
 use Rattle.cores.specs.Put.{put}
+use Rattle.cores.specs.Registers.{cpus_of, ons_of}
+use Rattle.cores.proofs.CoreWords.{flag_byte}
 use Rattle.cache.specs.Own.{Own, with_own}
 use Rattle.cache.specs.Words.{caches_of, slots_of}
 use Rattle.cache.proofs.Own.{caches_changed, own_words}
 use Rattle.cache.proofs.Written.{picked, put_is}
 use Rattle.link.specs.Words.{grants_of, probes_of}
 use Rattle.directory.specs.Words.{entries_of, requests_of}
-use Rattle.cached.specs.Layout.{flag, core_of, cpus_of, ons_of, control_of, dues_of, sweeps_of, state_of, state_from, with_slots}
+use Rattle.cached.specs.Layout.{control_of, dues_of, sweeps_of, state_of, state_from, with_slots}
 use Rattle.cached.specs.Rv.{rv}
 use Rattle.cached.specs.Soc.{State}
 use Rattle.cached.specs.declared.control.Control.{Control}
 
-pub flag_byte : (b : Bool) → flag (bool_byte b) ≡ b
-flag_byte true = refl
-flag_byte false = refl
+-- a row of words, one for each core, each read by `of`, with something else beyond
+module _ {X : Type 0} (of : ℕ → X) (none : X) where
+  abbrev words : List ℕ → ℕ → X
+  words w = table 1 (λ _ b. of (get_or b 0 0)) w
 
--- a core that was written, the three words first
-same_core : (x y : Core) → x.pc ≡ y.pc → x.registers ≡ y.registers → x.epc ≡ y.epc → x.lets ≡ y.lets → x ≡ y
-same_core x y a b c d = λ i. record { pc = a i; registers = b i; epc = c i; lets = d i }
+  abbrev row : List ℕ → ℕ → X
+  row w k = pick (ltb k 4) (of (get_or w k 0)) none
 
-abbrev head : Core → List ℕ
-head c = c.pc ∷ c.epc ∷ bool_byte c.lets ∷ []
+  word_is : (w : List ℕ) (k : ℕ) → words w k ≡ of (get_or w k 0)
+  word_is w k = ap of (part_word (1 * k) 1 w 0 0 (omega arith) ∙ ap (λ i. get_or w i 0) (omega arith))
 
-pub core_written : (b ys zs : List ℕ) (c : Core) → ys ≡ head c → zs ≡ c.registers → length zs ≡ 32 → core_of (put_mid 3 32 (put_mid 0 3 b ys) zs) ≡ c
-unfolding part
-core_written b ys zs c e f h =
-    rw e (same_core (core_of (put_mid 3 32 (put_mid 0 3 b (head c)) zs)) c refl (take_at zs _ 32 h ∙ f) refl (flag_byte c.lets))
+  row_within : (w : List ℕ) → row w ≡ within 4 none (words w)
+  row_within w = fun_ext (λ k. ap (λ x. pick (ltb k 4) x none) (sym (word_is w k)))
 
--- the table of four cores, after core k was written
-pub cores_written : (w ys : List ℕ) (k n : ℕ) (c : Core) → k < 4 → length w ≡ 140 → length ys ≡ 35 → n ≡ 35 → core_of ys ≡ c →
-    cpus_of (put_mid (35 * k) n w ys) ≡ put (cpus_of w) k c
-cores_written w ys k n c h l e f g =
-    rw f
-    (put_is (cpus_of w) _ k c
-    (picked _ _ _ (lt-ltb k 4 h) ∙ ap core_of (part_here (35 * k) 35 35 w ys e (omega arith)) ∙ g)
-    (λ j ne. ap (λ b. pick (ltb j 4) (core_of b) (start 0)) (part_other (35 * j) 35 (35 * k) 35 w ys e (omega arith) (apart 35 k j ne))))
+  pub row_read : (w : List ℕ) (k : ℕ) → k < 4 → words w k ≡ row w k
+  row_read w k h = word_is w k ∙ sym (picked _ _ _ (lt-ltb k 4 h))
 
--- a row of words, one for each core, each read by `of`, with something else beyond: after word k was written
-pub row_written : {X : Type 0} (of : ℕ → X) (d : X) (w : List ℕ) (k v : ℕ) (x : X) → k < 4 → length w ≡ 4 → of v ≡ x →
-    (λ j. pick (ltb j 4) (of (get_or (set w k v) j 0)) d) ≡ put (λ j. pick (ltb j 4) (of (get_or w j 0)) d) k x
-row_written of d w k v x h l e =
-    put_is _ _ k x
-    (picked _ _ _ (lt-ltb k 4 h) ∙ ap of (get_or-set_same w k v 0 (omega arith)) ∙ e)
-    (λ j ne. ap (λ y. pick (ltb j 4) (of y) d) (get_or-set_other w k j v 0 ne))
-
--- whether they go, likewise
-pub ons_written : (w : List ℕ) (k : ℕ) (b : Bool) → k < 4 → length w ≡ 4 → ons_of (set w k (bool_byte b)) ≡ put (ons_of w) k b
-ons_written w k b h l =
-    put_is (ons_of w) _ k b
-    (ap (λ t. t && flag (get_or (set w k (bool_byte b)) k 0)) (lt-ltb k 4 h) ∙ ap flag (get_or-set_same w k (bool_byte b) 0 (omega arith)) ∙ flag_byte b)
-    (λ j ne. ap (λ x. ltb j 4 && flag x) (get_or-set_other w k j (bool_byte b) 0 ne))
-
--- what is swept next is a slot
-pub sweep_within : (w : List ℕ) (k i : ℕ) → k < 4 → i ≡ sweeps_of w k → i < 64
-sweep_within w k i h e = let f : i ≡ get_or w k 0 % 64 = e ∙ picked _ _ _ (lt-ltb k 4 h) in omega arith
+  pub row_written : (v w : List ℕ) (k : ℕ) (x : X) → k < 4 → words v ≡ put (words w) k x → row v ≡ put (row w) k x
+  row_written v w k x h e = row_within v ∙ within_written 4 none (words w) (words v) k x h e ∙ ap (λ f. put f k x) (sym (row_within w))
 
 -- what the cores share, after it was written
 least : (n : ℕ) → n ≤ 4 → min n 4 ≡ n

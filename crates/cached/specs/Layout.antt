@@ -1,10 +1,10 @@
--- How the chip's state lies in the lent words; and the words for which a call is refused.
+-- How the chip's state lies in the lent words.
 -- Every content of the words is a state. Assumes nothing: these are definitions.
-use Rattle.std.specs.Prelude.{ℕ, ◌%◌, min, Bool, true, not, ◌&&◌, List, Some, None, Option, ◌==◌, nat_lt, slice_index}
-use Rattle.words.specs.Parts.{part, block}
-use Rattle.rv32.specs.Execute.{start}
+use Rattle.std.specs.Prelude.{ℕ, ◌%◌, min, Bool, true, List, nat_lt, slice_index}
+use Rattle.words.specs.Parts.{part}
 use Rattle.rv32.specs.declared.core_state.Core.{Core}
 use Rattle.cores.specs.Machines.{pick}
+use Rattle.cores.specs.Registers.{cpus_of, flag, ons_of}
 use Rattle.cache.specs.Slots.{Slot}
 use Rattle.cache.specs.Words.{caches_of}
 use Rattle.link.specs.Messages.{Grant, Probe}
@@ -14,24 +14,6 @@ use Rattle.directory.specs.Words.{entries_of, requests_of}
 use Rattle.cached.specs.Soc.{State}
 use Rattle.cached.specs.Rv.{rv}
 use Rattle.cached.specs.declared.control.Control.{Control}
-use Rattle.cached.specs.declared.control.Fault.{Fault}
-use Rattle.cached.specs.declared.control.Fault.TheVariants.{ChipShort, SaidShort, Cores}
-
--- a word that says yes or no
-abbrev pub flag : ℕ → Bool
-flag x = not (x == 0)
-
--- 35 words of a core: pc, where the last interrupt came from, whether interrupts are let, and its 32 registers
-abbrev pub core_of : List ℕ → Core
-core_of b = record { pc = slice_index b 0; registers = part 3 32 b; epc = slice_index b 1; lets = flag (slice_index b 2) }
-
--- four cores; a core that is not there is a new one
-abbrev pub cpus_of : List ℕ → ℕ → Core
-cpus_of words k = pick (nat_lt k 4) (core_of (block 35 words k)) (start 0)
-
--- whether each goes: a word for each; a core that is not there is off
-abbrev pub ons_of : List ℕ → ℕ → Bool
-ons_of words k = nat_lt k 4 && flag (slice_index words k)
 
 -- five words: how many cores there are, how many lines memory has, whose request probes, whose turn it is, and which way is replaced next
 abbrev pub control_of : List ℕ → Control
@@ -96,11 +78,3 @@ with_entries h f = state_from h.cpu h.on (shared h) h.hints.due h.hints.sweep h.
 
 abbrev pub with_slots : State rv → (ℕ → Slot) → State rv
 with_slots h f = state_from h.cpu h.on (shared h) h.hints.due h.hints.sweep h.lines.coming h.hints.probe h.lines.request h.lines.entry f
-
--- why a new chip is refused, if it is: for so many lent words and so many cores
-abbrev pub fresh_fault : ℕ → ℕ → Option Fault
-fresh_fault words cores = pick (nat_lt words 16384) (Some ChipShort) (pick (nat_lt 0 cores && nat_lt cores 5) None (Some Cores))
-
--- why a cycle is refused, if it is: for so many lent words of the chip and for words said
-abbrev pub cycle_fault : ℕ → ℕ → Option Fault
-cycle_fault words said = pick (nat_lt words 16384) (Some ChipShort) (pick (nat_lt said 16) (Some SaidShort) None)

@@ -1,6 +1,6 @@
 -- What the steps of a cycle put out, over the values that the code has.
 -- Assumes nothing: these are definitions.
-use Rattle.std.specs.Prelude.{◌≡◌, ℕ, zero, suc, ◌+◌, ◌*◌, Bool, true, false, not, ◌||◌, List, [], ◌∷◌, ◌++◌, Some, None, Option, ◌==◌, ◌≢◌}
+use Rattle.std.specs.Prelude.{◌≡◌, ℕ, zero, suc, ◌+◌, ◌*◌, Bool, false, not, ◌||◌, List, [], ◌∷◌, ◌++◌, Some, None, Option, ◌==◌, ◌≢◌}
 use Rattle.rv32.specs.declared.core_state.Core.{Core}
 use Rattle.cores.specs.Board.{Out}
 use Rattle.cores.specs.Loop as loop
@@ -9,9 +9,9 @@ use Rattle.cores.specs.declared.port.Event.{Event}
 use Rattle.cores.specs.declared.port.Event.TheVariants.{Step, Interrupt}
 use Rattle.cores.specs.declared.port.Line.{Line}
 use Rattle.cache.specs.Slots.{Slot, Lack, cached, first, seek}
+use Rattle.cache.specs.Words.{is_write}
 use Rattle.link.specs.Messages.{is_quiet, is_unasked}
 use Rattle.link.specs.declared.probe.Probe.{Probe}
-use Rattle.link.specs.declared.probe.Probe.TheVariants.{Invalidate, Downgrade}
 use Rattle.cached.specs.Kind.{code, operand}
 use Rattle.cached.specs.Rv.{rv}
 use Rattle.cached.specs.Soc.{State, lets_go}
@@ -39,13 +39,7 @@ lacking n c f = first (seek f 0 (code rv n c)) (seek f 0 (operand rv n c (cached
 
 -- core k lets go of a line, as a probe asks it to
 abbrev pub lets_go_of : ℕ → Probe → loop.Step (State rv)
-lets_go_of k (Invalidate i a) = lets_go rv (64 * k + i) a true
-lets_go_of k (Downgrade i a) = lets_go rv (64 * k + i) a false
-
--- the line that a probe asks for, and its slot
-abbrev pub probed_line : Probe → ℕ
-probed_line (Invalidate i a) = a
-probed_line (Downgrade i a) = a
+lets_go_of k p = lets_go rv (64 * k + p.slot) p.line (is_write p.access)
 
 -- which message each core takes: its grant, if that stands there already or nothing is asked of it
 abbrev pub dues : State rv → ℕ → Bool

@@ -1,9 +1,10 @@
 -- The chip: cores with caches, a directory, messages between them, and a turn; its state, and a cycle of it as small steps.
 -- Assumes nothing: these are definitions.
 use Rattle.std.specs.Prelude.{ℕ, suc, ◌+◌, ◌*◌, ◌%◌, Bool, true, false, not, ◌&&◌, ◌||◌, List, [], ◌∷◌, ◌==◌, nat_lt}
-use Rattle.rv32.specs.Did.{Did, goes, stores, says, stops, cpu_after, on_after}
+use Rattle.rv32.specs.Did.{Did, cpu_after, on_after}
 use Rattle.cores.specs.Machines.{pick, Event, step, interrupt}
 use Rattle.cores.specs.Board.{Out, Chip}
+use Rattle.cores.specs.Ports.{spoken}
 use Rattle.cores.specs.Put.{put}
 use Rattle.cores.specs.Loop.{silent, Step, then, each}
 use Rattle.cached.specs.Kind.{Kind, code, operand}
@@ -37,13 +38,6 @@ with_turn t h = record { probe = h.probe; due = h.due; lead = h.lead; turn = t; 
 
 abbrev pub with_sweep : ℕ → ℕ → Hints → Hints
 with_sweep k s h = record { probe = h.probe; due = h.due; lead = h.lead; turn = h.turn; way = h.way; sweep = put h.sweep k s }
-
--- the word that core k has said
-abbrev pub spoken : {Cpu : Type 0} → ℕ → Did Cpu → List (ℕ × ℕ)
-spoken k (goes d) = []
-spoken k (stores y v d) = []
-spoken k (says x d) = (k, x) ∷ []
-spoken k stops = []
 
 -- core t, or the first if there are only n
 abbrev pub around : ℕ → ℕ → ℕ

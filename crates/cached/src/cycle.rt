@@ -2,17 +2,18 @@
 ghost use Rattle.std.specs.Prelude.{◌≡◌, ◌<◌, ◌≤◌, false, ◌++◌, map, length, drop, Some, None, MatchResult, slice_index_or};
 ghost use Rattle.cores.specs.Loop.{each};
 ghost use Rattle.cores.specs.Ports.{line_of, out_of, said_of, somes};
-ghost use Rattle.cached.specs.Layout.{cycle_fault, state_of};
+ghost use Rattle.cores.specs.Faults.{cycle_fault};
+ghost use Rattle.cached.specs.Layout.{state_of};
 ghost use Rattle.cached.specs.Puts.{Says, all_acted};
 ghost use Rattle.cached.specs.Rv.{rv};
 ghost use Rattle.cached.specs.Soc.{act, cycle};
 
 use crate::act::act;
-use crate::control::Fault;
 use crate::deliver::deliver;
 use crate::reply::{answer_all, take_all};
 use crate::start::{pass_turn, start_next};
-use cores::port::{Event, Line, Out};
+use crate::state::Chip;
+use cores::port::{Event, Fault, Line, Out};
 
 // The lines that the cores write and their events, by core.
 #[derive(Clone, Copy)]
@@ -36,8 +37,8 @@ fn say(said: &mut [u32], k: usize, word: Option<u32>)
 }
 
 // Each core acts.
-fn act_all(chip: &mut [u32], up: [bool; 4], said: &mut [u32]) -> Deeds
-    requires { (3309 ≤ length chip.old) × (length said.old ≡ 8) }
+fn act_all(chip: &mut Chip, up: [bool; 4], said: &mut [u32]) -> Deeds
+    requires { length said.old ≡ 8 }
     ensures { (state_of chip.new, all_acted result.wrote (said_of said.new) result.did) ≡ each (act rv (λ k. slice_index_or up k false)) 4 (state_of chip.old) }
 {
     let mut wrote = [None; 4];
@@ -55,9 +56,10 @@ fn act_all(chip: &mut [u32], up: [bool; 4], said: &mut [u32]) -> Deeds
 fn both(first: [Option<Line>; 4], second: [Option<Line>; 4]) -> [Option<Line>; 8]
     ensures { somes line_of result ≡ somes line_of first ++ somes line_of second }
 {
-    [
-        first[0], first[1], first[2], first[3], second[0], second[1], second[2], second[3],
-    ]
+    let mut both = [None; 8];
+    both[..4].copy_from_slice(&first);
+    both[4..].copy_from_slice(&second);
+    both
 }
 
 // The lines of a row of eight places, in four: it has no more.
@@ -77,9 +79,10 @@ fn in_four(row: [Option<Line>; 8]) -> [Option<Line>; 4]
 }
 
 // The steps of a cycle, on the words that are used. What the cores answer and what they write have four lines at most.
-fn steps(chip: &mut [u32], given: &[Line], up: [bool; 4], said: &mut [u32]) -> Out
-    requires { (3309 ≤ length chip.old) × (length said.old ≡ 8) }
-    ensures { (state_of chip.new, out_of result said.new) ≡ cycle rv (state_of chip.old) (map line_of given.now) (λ k. slice_index_or up k false) }
+fn steps(chip: &mut Chip, given: &[Line], up: [bool; 4], said: &mut [u32]) -> Out
+    requires { length said.old ≡ 8 }
+    ensures value { (state_of chip.new, out_of result said.new) ≡ cycle rv (state_of chip.old) (map line_of given.now) (λ k. slice_index_or up k false) }
+    ensures long { length chip.new ≡ 3309 }
 {
     deliver(chip, given);
     take_all(chip);
@@ -100,7 +103,8 @@ fn cycle_in(chip: &mut [u32], given: &[Line], up: [bool; 4], said: &mut [u32]) -
     ensures unused { drop 3309 chip.new ≡ drop 3309 chip.old }
     ensures unsaid { drop 8 said.new ≡ drop 8 said.old }
 {
-    steps(&mut chip[0..3309], given, up, &mut said[0..8])
+    let used = chip.first_chunk_mut().unwrap();
+    steps(used, given, up, &mut said[0..8])
 }
 
 // One cycle: the lines that come and whose interrupt lines are up go in, and what is put out comes back, the words said in `said`, two for each core.

@@ -1,5 +1,5 @@
 // A cycle begins: it is settled which message each core takes, and lines come from memory for the requests that fetch them.
-ghost use Rattle.std.specs.Prelude.{◌≡◌, ◌<◌, ◌≤◌, map, length};
+ghost use Rattle.std.specs.Prelude.{◌≡◌, ◌<◌, map};
 ghost use Rattle.cores.specs.Loop.{silent};
 ghost use Rattle.cores.specs.Ports.{line_of};
 ghost use Rattle.cached.specs.Layout.{state_of, with_dues};
@@ -11,22 +11,21 @@ ghost use Rattle.cached.specs.Soc.{deliver, with_lines_of};
 use crate::control::Control;
 use crate::regions::{has_grant, is_asked, request};
 use crate::reply::grant_line;
-use crate::state::{control, set_control, set_due};
+use crate::state::{Chip, control, set_control, set_due};
 use cache::slot::Content;
 use cores::port::Line;
-use directory::request::Stage;
+use directory::request::{Request, Stage};
 
 // Whether core k takes its grant in this cycle, and not its probe: that stood there already, or nothing is asked of it.
-fn due_next(chip: &[u32], k: usize) -> bool
-    requires { (k < 4) × (3309 ≤ length chip.now) }
+fn due_next(chip: &Chip, k: usize) -> bool
+    requires { k < 4 }
     ensures { result ≡ dues (state_of chip.now) k }
 {
     !is_asked(chip, k) || has_grant(chip, k)
 }
 
 // Which message each core takes in this cycle.
-fn settle(chip: &mut [u32])
-    requires { 3309 ≤ length chip.old }
+fn settle(chip: &mut Chip)
     ensures { state_of chip.new ≡ with_dues (state_of chip.old) (dues (state_of chip.old)) }
 {
     for k in 0..4 {
@@ -36,31 +35,27 @@ fn settle(chip: &mut [u32])
 }
 
 // A line comes, for core k if that fetches it.
-fn deliver_to(chip: &mut [u32], k: usize, line: Line)
-    requires { (k < 4) × (3309 ≤ length chip.old) }
+fn deliver_to(chip: &mut Chip, k: usize, line: Line)
+    requires { k < 4 }
     ensures { state_of chip.new ≡ with_lines_of rv (delivered k line.number line.words ((state_of chip.old).lines.request k) (state_of chip.old).lines) (state_of chip.old) }
 {
-    let Some(request) = request(chip, k) else {
+    let Some(
+        request @ Request {
+            stage: Stage::Fetching,
+            ..
+        },
+    ) = request(chip, k)
+    else {
         return;
     };
-    match request.stage {
-        Stage::Fetching => {}
-        Stage::Queued | Stage::Probing => return,
+    if request.line == line.number {
+        let content = Content::fetched(line.number, line.words);
+        grant_line(chip, k, request.slot, content);
     }
-    if request.line != line.number {
-        return;
-    }
-    grant_line(
-        chip,
-        k,
-        request.slot,
-        Content::fetched(line.number, line.words),
-    );
 }
 
 // A line comes, for one of the cores.
-fn deliver_one(chip: &mut [u32], line: Line)
-    requires { 3309 ≤ length chip.old }
+fn deliver_one(chip: &mut Chip, line: Line)
     ensures { state_of chip.new ≡ with_lines_of rv (deliver_one 4 line.number line.words (state_of chip.old).lines) (state_of chip.old) }
 {
     for k in 0..4 {
@@ -69,8 +64,7 @@ fn deliver_one(chip: &mut [u32], line: Line)
 }
 
 // All lines that come.
-fn deliver_all(chip: &mut [u32], given: &[Line])
-    requires { 3309 ≤ length chip.old }
+fn deliver_all(chip: &mut Chip, given: &[Line])
     ensures { state_of chip.new ≡ with_lines_of rv (deliver_all 4 (map line_of given.now) (state_of chip.old).lines) (state_of chip.old) }
 {
     for line in given {
@@ -79,8 +73,7 @@ fn deliver_all(chip: &mut [u32], given: &[Line])
 }
 
 // A cycle begins: which message each core takes is settled, the other way is replaced next, and lines come.
-pub(crate) fn deliver(chip: &mut [u32], given: &[Line])
-    requires { 3309 ≤ length chip.old }
+pub(crate) fn deliver(chip: &mut Chip, given: &[Line])
     ensures { (state_of chip.new, silent) ≡ deliver rv (map line_of given.now) (state_of chip.old) }
 {
     settle(chip);

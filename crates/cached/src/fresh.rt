@@ -1,18 +1,21 @@
 // A new chip on lent words, and whether every core of a chip has stopped.
 ghost use Rattle.std.specs.Prelude.{◌≡◌, ◌<◌, ◌≤◌, length, drop, Some, None, MatchResult};
-ghost use Rattle.cached.specs.Layout.{fresh_fault, state_of};
+ghost use Rattle.cores.specs.Faults.{fresh_fault, stopped_fault};
+ghost use Rattle.cached.specs.Layout.{state_of};
 ghost use Rattle.cached.specs.Rv.{rv};
 ghost use Rattle.cached.specs.Soc.{fresh};
-ghost use Rattle.cached.specs.Stopped.{all_off, stopped_fault};
+ghost use Rattle.cached.specs.Stopped.{all_off};
 
-use crate::control::{Control, Fault};
-use crate::state::{is_on, set_control, set_core, set_due, set_on};
+use crate::control::Control;
+use crate::state::{Chip, is_on, set_control, set_core, set_due, set_on};
+use cores::port::Fault;
 use rv32::core_state::Core;
 
 // A new chip, on the words that are used: all words are 0, which makes empty slots, entries, requests and messages, but for the cores and what they share.
-fn begin(chip: &mut [u32], cores: usize, lines: u32)
-    requires { (length chip.old ≡ 3309) × (cores ≤ 4) }
-    ensures { state_of chip.new ≡ fresh rv cores lines }
+fn begin(chip: &mut Chip, cores: usize, lines: u32)
+    requires { cores ≤ 4 }
+    ensures value { state_of chip.new ≡ fresh rv cores lines }
+    ensures long { length chip.new ≡ 3309 }
 {
     chip.fill(0);
     for k in 0..4 {
@@ -37,7 +40,8 @@ fn fresh_in(chip: &mut [u32], cores: usize, lines: u32)
     ensures done { state_of chip.new ≡ fresh rv cores lines }
     ensures unused { drop 3309 chip.new ≡ drop 3309 chip.old }
 {
-    begin(&mut chip[0..3309], cores, lines);
+    let used = chip.first_chunk_mut().unwrap();
+    begin(used, cores, lines);
 }
 
 // A new chip of 1 to 4 cores, for a memory of so many lines. Fewer than 16,384 words, or another number of cores, are refused, and nothing is changed.
@@ -54,6 +58,12 @@ pub fn fresh(chip: &mut [u32], cores: usize, lines: u32) -> Result<(), Fault>
     Ok(())
 }
 
+fn all_off(chip: &Chip) -> bool
+    ensures { result ≡ all_off (state_of chip.now) }
+{
+    !(is_on(chip, 0) || is_on(chip, 1) || is_on(chip, 2) || is_on(chip, 3))
+}
+
 // Whether every core has stopped. Fewer than 16,384 words are refused.
 pub fn all_stopped(chip: &[u32]) -> Result<bool, Fault>
     ensures { MatchResult result (λ b. (stopped_fault (length chip.now) ≡ None) × (b ≡ all_off (state_of chip.now))) (λ f. stopped_fault (length chip.now) ≡ Some f) }
@@ -61,6 +71,5 @@ pub fn all_stopped(chip: &[u32]) -> Result<bool, Fault>
     if chip.len() < 16384 {
         return Err(Fault::ChipShort);
     }
-    let some = is_on(chip, 0) || is_on(chip, 1) || is_on(chip, 2) || is_on(chip, 3);
-    Ok(!some)
+    Ok(all_off(chip.first_chunk().unwrap()))
 }

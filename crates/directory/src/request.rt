@@ -96,8 +96,8 @@ fn is_busy(requests: &[u32], k: usize, line: u32) -> bool
     requires { (k < 4) × (length requests.now ≡ 20) }
     ensures { result ≡ busy (requests_of requests.now k) line }
 {
-    at::<Requests>(requests, k)
-        .is_some_and(|request| !matches!(request.stage, Stage::Queued) && request.line == line)
+    at::<Requests>(requests, k).is_some_and(|request| !matches!(request.stage, Stage::Queued)
+        && request.line == line)
 }
 
 // Whether no request for the line is under way.

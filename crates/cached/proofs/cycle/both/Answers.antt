@@ -1,7 +1,7 @@
 -- Two rows of four places are one of eight.
-use Rattle.std.proofs.Common.{None, arith}
+use Rattle.std.proofs.Common.{arith}
 use Rattle.cached.proofs.Cycles.{both_rows}
 use Rattle.cached.proofs.cycle.both.Goals as goal
 
 pub returns : goal.returns
-returns c = both_rows c.args.first c.args.second None (omega arith) (omega arith)
+returns c = rw (c.copy_from_slice.ensures.after, c.copy_from_slice-2.ensures.after) (both_rows c.args.first c.args.second (omega arith))

@@ -18,8 +18,8 @@ in_four-requires c =
     c.deliver.ensures c.take_all.ensures c.answer_all-answered.ensures c.act_all-deeds.ensures c.start_next-asks.ensures c.pass_turn.ensures c.both.ensures in
     subst (λ (r : State rv × Out). length r.1.writes ≤ 4) (sym whole) (cycle_few rv (state_of c.args.chip.now) xs up).writes
 
-pub returns : goal.returns
-returns c =
+pub returns-clause-value : goal.returns-clause-value
+returns-clause-value c =
     cycle_is (map line_of c.args.given.now) (λ k. get_or c.args.up k false) (state_of c.args.chip.now) (state_of c.deliver.new.chip) (state_of c.take_all.new.chip) (state_of c.answer_all-answered.new.chip)
     (state_of c.act_all-deeds.new.chip) (state_of c.start_next-asks.new.chip) (state_of c.pass_turn.new.chip) c.answer_all-answered.result c.act_all-deeds.result.wrote _ c.act_all-deeds.result.did c.start_next-asks.result _
     c.deliver.ensures c.take_all.ensures c.answer_all-answered.ensures c.act_all-deeds.ensures c.start_next-asks.ensures c.pass_turn.ensures (c.in_four.ensures ∙ c.both.ensures)

@@ -1,9 +1,13 @@
--- A slot of core k is one of its own cache.
-use Rattle.std.proofs.Common.{◌≡◌, ◌+◌, ◌-◌, ◌*◌, ◌∙◌, arith}
-use Rattle.cached.proofs.Written.{own_slots}
+-- It is a place of the last region.
+use Rattle.std.proofs.Common.{◌+◌, ◌*◌, ap, ◌∙◌, arith}
+use Rattle.words.specs.Parts.{part}
+use Rattle.cache.proofs.Own.{place_read}
+use Rattle.cached.specs.Layout.{state_of}
 use Rattle.cached.proofs.regions.content.Goals as goal
 
 pub returns : goal.returns
+unfolding part state_of
 returns c =
-    let e : (1389 + 640 * c.args.k) - (749 + 640 * c.args.k) ≡ 640 = omega arith in
-    c.content_at.ensures ∙ own_slots c.args.chip.now c.args.k _ (omega arith) e c.args.slot (omega arith)
+    let w = c.args.chip.now in
+    let k = c.args.k in
+    c.at.ensures ∙ place_read (part 749 2560 w) (64 * k + c.number.result) (omega arith) ∙ ap (λ i. (state_of w).lines.slot (64 * k + i)) c.number.ensures.value

@@ -5,4 +5,4 @@ use Rattle.cached.proofs.regions.probe_for.Goals as goal
 
 pub returns : goal.returns
 unfolding part state_of
-returns c = record { value = c.probe_for.ensures.value; inside = c.probe_for.ensures.inside }
+returns c = c.probe_for.ensures

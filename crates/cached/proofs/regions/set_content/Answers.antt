@@ -1,17 +1,20 @@
--- A slot of its own cache is written, and all others stay.
-use Rattle.std.proofs.Common.{◌≡◌, ◌+◌, ◌-◌, ◌*◌, ap, ◌∙◌, arith}
-use Rattle.cache.specs.Own.{with_own}
+-- A place of the last region is written, and the others stay.
+use Rattle.std.proofs.Common.{◌+◌, ◌*◌, ap, ◌∙◌, arith}
+use Rattle.words.specs.Parts.{part}
+use Rattle.cores.specs.Put.{put}
 use Rattle.cache.specs.Words.{content_of}
-use Rattle.cache.proofs.Own.{put_own}
+use Rattle.cache.proofs.Own.{place_written}
 use Rattle.cached.specs.Layout.{state_of, with_slots}
-use Rattle.cached.proofs.Written.{own_slots, wrote_own}
+use Rattle.cached.proofs.Written.{wrote}
 use Rattle.cached.proofs.regions.set_content.Goals as goal
 
 pub returns : goal.returns
+unfolding part state_of
 returns c =
-    let e : (1389 + 640 * c.args.k) - (749 + 640 * c.args.k) ≡ 640 = omega arith in
     let w = c.args.chip.now in
+    let v = c.put_at.new.words in
     let k = c.args.k in
-    wrote_own w c.put_content.new.cache k _ (omega arith) e (omega arith) (omega arith)
-    ∙ ap (λ g. with_slots (state_of w) (with_own k (state_of w).lines.slot g)) c.put_content.ensures
-    ∙ ap (with_slots (state_of w)) (put_own k (state_of w).lines.slot _ (own_slots w k _ (omega arith) e) c.args.slot (content_of c.args.content) (omega arith))
+    wrote 9 w v (omega arith) (omega arith) (omega arith)
+    ∙ ap (with_slots (state_of w))
+    (place_written v (part 749 2560 w) (64 * k + c.number.result) (content_of c.args.content) (omega arith) c.put_at.ensures
+    ∙ ap (λ i. put (state_of w).lines.slot (64 * k + i) (content_of c.args.content)) c.number.ensures.value)

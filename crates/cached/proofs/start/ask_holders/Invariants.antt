@@ -2,7 +2,7 @@
 use Rattle.std.proofs.Common.{◌≡◌, ltb}
 use Rattle.cores.specs.Machines.{pick}
 use Rattle.directory.specs.Directory.{question}
-use Rattle.directory.specs.Words.{is_write}
+use Rattle.cache.specs.Words.{is_write}
 use Rattle.cached.specs.Layout.{state_of, with_asked}
 use Rattle.cached.proofs.start.ask_holders.Given as goal
 

@@ -1,13 +1,12 @@
--- Each turn looks at one event.
-use Rattle.std.proofs.Common.{true, false, sym, ◌∙◌}
-use Rattle.cached.proofs.Cycles.{looked, looked_all}
+-- One of the events is an instruction of the core, or none is.
+use Rattle.std.proofs.Common.{◌∙◌, rules}
+use Rattle.std.proofs.lemmas.Iterator.{YieldsList-from_slice}
+use Rattle.std.proofs.lemmas.Iterator.Search.{any_from_yields_List}
+use Rattle.cached.specs.Puts.{is_step}
+use Rattle.cached.proofs.Cycles.{any_step}
 use Rattle.cached.proofs.start.stepped.Goals as goal
 
-pub returns-then-is_step : goal.returns-then-is_step
-returns-then-is_step c = looked c.args.k true _ c.args.did.now c.loop-event.event-index _ c.loop-event-test.true (sym c.if-is_step.true ∙ c.is_step.ensures) c.loop-event.invariant
-
-pub loop-event-preserved : goal.loop-event-preserved
-loop-event-preserved c = looked c.args.k false _ c.args.did.now c.loop-event.event-index _ c.loop-event-test.true (sym c.if-is_step.false ∙ c.is_step.ensures) c.loop-event.invariant
-
 pub returns : goal.returns
-returns c = looked_all c.args.k _ c.args.did.now c.loop-event.event-index c.loop-event-test.false c.loop-event.invariant
+returns c =
+    any_from_yields_List (is_step c.args.k) _ _ c.any.result c.any.ensures.ran (YieldsList-from_slice c.args.did.now cc) (λ x b q k. search rules)
+    ∙ any_step c.args.k c.args.did.now
