@@ -4,7 +4,7 @@ use mathlib.Core.Bool.{false≢true}
 use borrow.Rule.Slice.PartMut.{put_mid}
 use lib.Seq.{take-set-lt, drop-set-add}
 use Rattle.std.proofs.lemmas.List.{get_or-set_same, get_or-set_other}
-use Rattle.std.proofs.lemmas.Bool.{eqb-true, lt-ltb}
+use Rattle.std.proofs.lemmas.Bool.{eqb-true, lt-ltb, cond-true}
 use Rattle.words.specs.Parts.{part, block}
 use Rattle.words.proofs.Parts.{part_word}
 use Rattle.cores.specs.Machines.{pick}
@@ -13,7 +13,7 @@ use Rattle.cache.specs.Slots.{holds, has, words, Found, found, word_at}
 use Rattle.cache.specs.Words.{holding, tag_of, slot_of, slots_of, stored_at}
 use Rattle.cache.specs.declared.slot.Slot.{Slot}
 use Rattle.cache.specs.declared.slot.Slot.TheVariants.{Empty, Shared, Owned}
-use Rattle.cache.proofs.Written.{picked, table_written}
+use Rattle.cache.proofs.Written.{table_written}
 
 has_words : (s : Slot) (w : List ℕ) (a : ℕ) → has (holding s w) a ≡ true → words (holding s w) ≡ w
 has_words Empty w a h = absurd (false≢true h)
@@ -26,7 +26,7 @@ has_number false true z n a w h = eqb-true n a h
 has_number false false z n a w h = eqb-true n a h
 
 pub slot_here : (w : List ℕ) (i : ℕ) → i < 64 → slots_of w i ≡ slot_of (block 10 w i)
-slot_here w i h = picked _ _ _ (lt-ltb i 64 h)
+slot_here w i h = cond-true _ _ _ (lt-ltb i 64 h)
 
 -- a word of a slot that has its line
 pub word_here : (w : List ℕ) (i a x : ℕ) (f : Found) → i < 64 → has (slots_of w i) a ≡ true → found i ≡ f →

@@ -1,18 +1,17 @@
 -- A core's own cache, and the caches of all cores.
 use Rattle.std.proofs.Common.{◌≡◌, ℕ, suc, ◌+◌, ◌*◌, ◌/◌, ◌%◌, ◌<◌, ◌≤◌, Bool, true, false, List, get_or, set, sym, refl, ap, ◌∙◌, inl, inr, arith}
 use mathlib.Core.Path.{fun_ext}
-use Rattle.std.proofs.lemmas.Bool.{cases_eq, cases_lt, lt-ltb, le-ltb, eq-eqb, ne_eqb}
+use Rattle.std.proofs.lemmas.Bool.{cases_eq, cases_lt, lt-ltb, le-ltb, eq-eqb, ne_eqb, cond-true, cond-false}
 use Rattle.rv32.specs.declared.core_state.Need.{Need}
 use Rattle.rv32.specs.declared.core_state.Need.TheVariants.{Nothing, Read, Write}
 use Rattle.words.specs.Parts.{part, block, table}
-use Rattle.words.proofs.Parts.{part_part}
+use Rattle.words.proofs.Parts.{part_part, put_is}
 use Rattle.words.proofs.Tables.{within_read, within_written}
 use Rattle.cores.specs.Machines.{pick}
 use Rattle.cores.specs.Put.{put}
 use Rattle.cache.specs.Slots.{Slot, empty, holds, has, owns, words, home, Found, missing, found, find, word_at, cached, ready, lacks, to_read, to_write, seek, goes_first, chosen}
 use Rattle.cache.specs.Words.{slot_of, slots_of, caches_of, stored_at, stored_in}
 use Rattle.cache.specs.Own.{Own, with_own, shifted, OwnWords, OwnWordsWritten, PlaceRead, PlaceWritten}
-use Rattle.cache.proofs.Written.{picked, unpicked, put_is}
 
 -- block i of block k
 inner : (w : List ℕ) (k i : ℕ) → i < 64 → block 10 (block 640 w k) i ≡ block 10 w (64 * k + i)
@@ -20,7 +19,7 @@ inner w k i h = part_part (640 * k) 640 (10 * i) 10 w (omega arith) ∙ ap (λ a
 
 pub own_words : OwnWords
 own_words w k h i l =
-    picked _ _ _ (lt-ltb i 64 l) ∙ ap slot_of (inner w k i l) ∙ sym (picked _ _ _ (lt-ltb (64 * k + i) 256 (omega arith)))
+    cond-true _ _ _ (lt-ltb i 64 l) ∙ ap slot_of (inner w k i l) ∙ sym (cond-true _ _ _ (lt-ltb (64 * k + i) 256 (omega arith)))
 
 -- the two places of a line
 pub home_own : (k a : ℕ) → home k a ≡ 64 * k + home 0 a
@@ -89,21 +88,21 @@ module _ (k : ℕ) (f g : ℕ → Slot) (o : Own k f g) where
   written_at : (i : ℕ) (x : Slot) → i < 64 → (p : ℕ) → (p ≡ 64 * k + i → ⊥) → with_own k f (put g i x) p ≡ f p
   written_at i x h p ne =
       elim (cases_eq (p / 64) k) [
-        | inl e ↦ picked _ _ _ (eq-eqb (p / 64) k e) ∙ unpicked _ _ _ (ne_eqb (p % 64) i (other p i ne e)) ∙ o (p % 64) (omega arith) ∙ ap f (omega arith)
-        | inr d ↦ unpicked _ _ _ (ne_eqb (p / 64) k d)
+        | inl e ↦ cond-true _ _ _ (eq-eqb (p / 64) k e) ∙ cond-false _ _ _ (ne_eqb (p % 64) i (other p i ne e)) ∙ o (p % 64) (omega arith) ∙ ap f (omega arith)
+        | inr d ↦ cond-false _ _ _ (ne_eqb (p / 64) k d)
       ]
 
   pub put_own : (i : ℕ) (x : Slot) → i < 64 → with_own k f (put g i x) ≡ put f (64 * k + i) x
   put_own i x h =
       put_is f (with_own k f (put g i x)) (64 * k + i) x
-      (picked _ _ _ (eq-eqb ((64 * k + i) / 64) k (omega arith)) ∙ picked _ _ _ (eq-eqb ((64 * k + i) % 64) i (omega arith)))
+      (cond-true _ _ _ (eq-eqb ((64 * k + i) / 64) k (omega arith)) ∙ cond-true _ _ _ (eq-eqb ((64 * k + i) % 64) i (omega arith)))
       (written_at i x h)
 
   same_own : with_own k f g ≡ f
   same_own =
       fun_ext (λ p. elim (cases_eq (p / 64) k) [
-        | inl e ↦ picked _ _ _ (eq-eqb (p / 64) k e) ∙ o (p % 64) (omega arith) ∙ ap f (omega arith)
-        | inr d ↦ unpicked _ _ _ (ne_eqb (p / 64) k d)
+        | inl e ↦ cond-true _ _ _ (eq-eqb (p / 64) k e) ∙ o (p % 64) (omega arith) ∙ ap f (omega arith)
+        | inr d ↦ cond-false _ _ _ (ne_eqb (p / 64) k d)
       ])
 
   pub stored_own : (y v : ℕ) → with_own k f (stored_in g 0 y v) ≡ stored_in f k y v
@@ -122,21 +121,21 @@ caches_changed v w k h same = fun_ext (λ p. elim (cases_lt p 256) [ inl l ↦ i
   where
     outside : (p : ℕ) → 256 ≤ p → caches_of v p ≡ with_own k (caches_of w) (slots_of (block 640 v k)) p
     outside p l =
-        unpicked _ _ _ (le-ltb p 256 l) ∙ sym (unpicked _ _ _ (le-ltb p 256 l)) ∙ sym (unpicked _ _ _ (ne_eqb (p / 64) k (λ e. omega arith)))
+        cond-false _ _ _ (le-ltb p 256 l) ∙ sym (cond-false _ _ _ (le-ltb p 256 l)) ∙ sym (cond-false _ _ _ (ne_eqb (p / 64) k (λ e. omega arith)))
 
     inside : (p : ℕ) → p < 256 → caches_of v p ≡ with_own k (caches_of w) (slots_of (block 640 v k)) p
     inside p l =
         slots_by v p l
         ∙ elim (cases_eq (p / 64) k) [
-          | inl e ↦ ap (λ j. slots_of (block 640 v j) (p % 64)) e ∙ sym (picked _ _ _ (eq-eqb (p / 64) k e))
-          | inr d ↦ ap (λ b. slots_of b (p % 64)) (same (p / 64) (omega arith) d) ∙ sym (slots_by w p l) ∙ sym (unpicked _ _ _ (ne_eqb (p / 64) k d))
+          | inl e ↦ ap (λ j. slots_of (block 640 v j) (p % 64)) e ∙ sym (cond-true _ _ _ (eq-eqb (p / 64) k e))
+          | inr d ↦ ap (λ b. slots_of b (p % 64)) (same (p / 64) (omega arith) d) ∙ sym (slots_by w p l) ∙ sym (cond-false _ _ _ (ne_eqb (p / 64) k d))
         ]
 
 pub own_words_written : OwnWordsWritten
 own_words_written v w ys k h e =
     let at : (j : ℕ) → block 640 v j ≡ put (block 640 w) k ys j = λ j. ap (λ (f : ℕ → List ℕ). f j) e in
-    caches_changed v w k h (λ j l ne. at j ∙ unpicked _ _ _ (ne_eqb j k ne))
-    ∙ ap (λ b. with_own k (caches_of w) (slots_of b)) (at k ∙ picked _ _ _ (eq-eqb k k refl))
+    caches_changed v w k h (λ j l ne. at j ∙ cond-false _ _ _ (ne_eqb j k ne))
+    ∙ ap (λ b. with_own k (caches_of w) (slots_of b)) (at k ∙ cond-true _ _ _ (eq-eqb k k refl))
 
 -- a place of all caches
 pub place_read : PlaceRead

@@ -1,10 +1,10 @@
 -- The words of a slot that are written, read back; and what that leaves of a cache.
-use Rattle.std.proofs.Common.{◌≡◌, ℕ, ◌+◌, ◌*◌, ◌<◌, ◌≤◌, Bool, true, false, ltb, List, length, get_or, sym, refl, ap, ◌∙◌, inl, inr, arith}
+use Rattle.std.proofs.Common.{◌≡◌, ℕ, ◌+◌, ◌*◌, ◌<◌, ◌≤◌, ltb, List, length, get_or, refl, ap, ◌∙◌, inl, inr, arith}
 use mathlib.Core.Path.{fun_ext}
 use borrow.Rule.Slice.PartMut.{put_mid}
-use Rattle.std.proofs.lemmas.Bool.{cases_eq, cases_lt, lt-ltb, le-ltb, eq-eqb, ne_eqb}
+use Rattle.std.proofs.lemmas.Bool.{cases_lt, lt-ltb, le-ltb, cond-true, cond-false}
 use Rattle.words.specs.Parts.{part, block}
-use Rattle.words.proofs.Parts.{part_here, part_other, apart, part_word}
+use Rattle.words.proofs.Parts.{part_here, part_other, apart, part_word, put_is}
 use Rattle.cores.specs.Machines.{pick}
 use Rattle.cores.specs.Put.{put}
 use Rattle.cache.specs.Slots.{empty, words}
@@ -12,17 +12,6 @@ use Rattle.cache.specs.Slots as slots
 use Rattle.cache.specs.Words.{holding, tag_of, slot_of, table_of, caches_of}
 use Rattle.cache.specs.declared.slot.Slot.{Slot}
 use Rattle.cache.specs.declared.slot.Slot.TheVariants.{Empty, Shared, Owned}
-
-pub picked : {A : Type 0} (b : Bool) (x y : A) → b ≡ true → pick b x y ≡ x
-picked b x y e = ap (λ t. pick t x y) e
-
-pub unpicked : {A : Type 0} (b : Bool) (x y : A) → b ≡ false → pick b x y ≡ y
-unpicked b x y e = ap (λ t. pick t x y) e
-
--- a function that has v at k, and is f elsewhere
-pub put_is : {A : Type 0} (f g : ℕ → A) (k : ℕ) (v : A) → g k ≡ v → ((j : ℕ) → (j ≡ k → ⊥) → g j ≡ f j) → g ≡ put f k v
-put_is f g k v h o =
-    fun_ext (λ j. elim (cases_eq j k) [ inl e ↦ rw e (h ∙ sym (picked _ _ _ (eq-eqb k k refl))) | inr ne ↦ o j ne ∙ sym (unpicked _ _ _ (ne_eqb j k ne)) ])
 
 -- the words of a line that is written
 pub line_written : (b zs : List ℕ) → length zs ≡ 8 → length b ≡ 10 → part 2 8 (put_mid 2 8 b zs) ≡ zs
@@ -34,12 +23,12 @@ pub table_written : (m : ℕ) (w ys : List ℕ) (i n : ℕ) (x : slots.Slot) →
 table_written m w ys i n x h l e f g =
     rw f
     (put_is (table_of m w) _ i x
-    (picked _ _ _ (lt-ltb i m h) ∙ ap slot_of (part_here (10 * i) 10 10 w ys e l) ∙ g)
+    (cond-true _ _ _ (lt-ltb i m h) ∙ ap slot_of (part_here (10 * i) 10 10 w ys e l) ∙ g)
     (λ j ne. ap (λ b. pick (ltb j m) (slot_of b) empty) (part_other (10 * j) 10 (10 * i) 10 w ys e l (apart 10 i j ne))))
 
 -- caches whose kinds are all 0 are empty
 pub caches_clear : (w : List ℕ) → ((p : ℕ) → p < 256 → get_or w (10 * p) 0 ≡ 0) → caches_of w ≡ (λ p. empty)
-caches_clear w h = fun_ext (λ p. elim (cases_lt p 256) [ inl l ↦ picked _ _ _ (lt-ltb p 256 l) ∙ clear p l | inr l ↦ unpicked _ _ _ (le-ltb p 256 l) ])
+caches_clear w h = fun_ext (λ p. elim (cases_lt p 256) [ inl l ↦ cond-true _ _ _ (lt-ltb p 256 l) ∙ clear p l | inr l ↦ cond-false _ _ _ (le-ltb p 256 l) ])
   where
     clear : (p : ℕ) → p < 256 → slot_of (block 10 w p) ≡ empty
     clear p l =

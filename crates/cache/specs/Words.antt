@@ -1,6 +1,6 @@
 -- How slots lie in lent words: ten words for each, so 640 for the cache of a core, and 2,560 for the caches of four.
 -- Every content of the words is a cache. Assumes nothing: these are definitions.
-use Rattle.std.specs.Prelude.{ℕ, ◌/◌, ◌%◌, Bool, true, false, not, List, Some, None, Option, ◌==◌, nat_lt, slice_index, slice_set}
+use Rattle.std.specs.Prelude.{ℕ, ◌/◌, ◌%◌, Bool, true, false, not, List, Some, None, Option, Ok, Err, Result, ◌==◌, nat_lt, slice_index, slice_set}
 use Rattle.words.specs.Parts.{part, block}
 use Rattle.cores.specs.Machines.{pick}
 use Rattle.cores.specs.Put.{put}
@@ -31,9 +31,9 @@ abbrev pub is_write : Access → Bool
 is_write Read = false
 is_write Write = true
 
-abbrev pub lack_of : Option Lack → slots.Lack
-lack_of None = ready
-lack_of (Some l) = lacks l.line (is_write l.access)
+abbrev pub lack_of : Result (Unit {0}) Lack → slots.Lack
+lack_of (Ok _) = ready
+lack_of (Err l) = lacks l.line (is_write l.access)
 
 -- what a word says that a line is asked for
 abbrev pub access_in : ℕ → Access

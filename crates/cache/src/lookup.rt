@@ -21,6 +21,7 @@ pub fn find(cache: &[u32; 640], line: u32) -> Option<SlotIndex>
     ensures value { found_of result ≡ find (slots_of cache.now) 0 line }
     ensures there { IfSome result (λ i. has (slots_of cache.now i) line ≡ true) }
 {
+    // Two tests: that a search of an array finds the first of two was not proved.
     let [first, second] = SlotIndex::both_for(line);
     if slot_at(cache, first).has(line) {
         Some(first)
@@ -35,18 +36,19 @@ pub fn find(cache: &[u32; 640], line: u32) -> Option<SlotIndex>
 pub fn word(cache: &[u32; 640], number: u32) -> u32
     ensures { result ≡ cached (slots_of cache.now) 0 number }
 {
+    // A match: a closure that reads the cache does not know that the slot was found.
     match find(cache, number / 8) {
         Some(i) => cache[10 * i.number() + 2 + (number % 8) as usize],
         None => 0,
     }
 }
 
-// What the cache lacks of what an instruction needs.
-pub fn lack(cache: &[u32; 640], need: Need) -> Option<Lack>
+// Whether the cache has what an instruction needs, or what it lacks.
+pub fn require(cache: &[u32; 640], need: Need) -> Result<(), Lack>
     ensures { lack_of result ≡ seek (slots_of cache.now) 0 need }
 {
     let (line, access, there) = match need {
-        Need::Nothing => return None,
+        Need::Nothing => return Ok(()),
         Need::Read(number) => {
             let line = number / 8;
             (line, Access::Read, find(cache, line).is_some())
@@ -60,7 +62,11 @@ pub fn lack(cache: &[u32; 640], need: Need) -> Option<Lack>
             )
         }
     };
-    (!there).then_some(Lack { line, access })
+    if there {
+        Ok(())
+    } else {
+        Err(Lack { line, access })
+    }
 }
 
 // A word of a slot that has its line: from now on it is the value, and the slot is owned and dirty.

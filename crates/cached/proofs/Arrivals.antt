@@ -2,12 +2,11 @@
 use Rattle.std.proofs.Common.{◌≡◌, ℕ, ◌+◌, ◌<◌, ◌≤◌, Bool, not, ◌||◌, ltb, List, map, length, get_or, drop, sym, refl, ap, ◌∙◌, inl, inr, add-one, arith}
 use mathlib.Core.Path.{fun_ext}
 use Rattle.std.proofs.lemmas.List.{drop_all, drop_more}
-use Rattle.std.proofs.lemmas.Bool.{cases_eq, cases_lt, eq-eqb, ne_eqb, le-ltb, lt-ltb}
+use Rattle.std.proofs.lemmas.Bool.{cases_eq, cases_lt, eq-eqb, ne_eqb, le-ltb, lt-ltb, cond-true, cond-false}
 use Rattle.cores.specs.Machines.{pick}
 use Rattle.cores.specs.Ports.{line_of}
 use Rattle.cores.specs.Put.{put}
 use Rattle.cores.specs.declared.port.Line.{Line}
-use Rattle.cache.proofs.Written.{picked, unpicked}
 use Rattle.link.specs.Messages.{is_unasked, is_quiet}
 use Rattle.link.proofs.Rows.{unasked_beyond}
 use Rattle.words.specs.Parts.{part}
@@ -22,15 +21,15 @@ abbrev pub upto : {A : Type 0} → ℕ → (ℕ → A) → (ℕ → A) → ℕ �
 upto n f g j = pick (ltb j n) (f j) (g j)
 
 pub upto_none : {A : Type 0} (f g : ℕ → A) → upto 0 f g ≡ g
-upto_none f g = fun_ext (λ j. unpicked _ _ _ (le-ltb j 0 (omega arith)))
+upto_none f g = fun_ext (λ j. cond-false _ _ _ (le-ltb j 0 (omega arith)))
 
 pub upto_more : {A : Type 0} (n : ℕ) (f g : ℕ → A) → put (upto n f g) n (f n) ≡ upto (n + 1) f g
 upto_more n f g =
     fun_ext (λ j. elim (cases_eq j n) [
-      | inl e ↦ picked _ _ _ (eq-eqb j n e) ∙ ap f (sym e) ∙ sym (picked _ _ _ (lt-ltb j (n + 1) (omega arith)))
-      | inr ne ↦ unpicked _ _ _ (ne_eqb j n ne) ∙ elim (cases_lt j n) [
-        | inl l ↦ picked _ _ _ (lt-ltb j n l) ∙ sym (picked _ _ _ (lt-ltb j (n + 1) (omega arith)))
-        | inr m ↦ unpicked _ _ _ (le-ltb j n m) ∙ sym (unpicked _ _ _ (le-ltb j (n + 1) (omega arith)))
+      | inl e ↦ cond-true _ _ _ (eq-eqb j n e) ∙ ap f (sym e) ∙ sym (cond-true _ _ _ (lt-ltb j (n + 1) (omega arith)))
+      | inr ne ↦ cond-false _ _ _ (ne_eqb j n ne) ∙ elim (cases_lt j n) [
+        | inl l ↦ cond-true _ _ _ (lt-ltb j n l) ∙ sym (cond-true _ _ _ (lt-ltb j (n + 1) (omega arith)))
+        | inr m ↦ cond-false _ _ _ (le-ltb j n m) ∙ sym (cond-false _ _ _ (le-ltb j (n + 1) (omega arith)))
       ]
     ])
 
@@ -45,11 +44,11 @@ settled_more h s t k b e d f =
 -- nothing is asked of a core that is not there, and its grant is due
 dues_beyond : (w : List ℕ) (j : ℕ) → 4 ≤ j → (state_of w).hints.due j ≡ dues (state_of w) j
 unfolding state_of
-dues_beyond w j h = unpicked _ _ _ (le-ltb j 4 h) ∙ sym (ap (λ p. is_unasked p || not (is_quiet ((state_of w).lines.coming j))) (unasked_beyond (part 205 12 w) j h))
+dues_beyond w j h = cond-false _ _ _ (le-ltb j 4 h) ∙ sym (ap (λ p. is_unasked p || not (is_quiet ((state_of w).lines.coming j))) (unasked_beyond (part 205 12 w) j h))
 
 pub settled_all : (w : List ℕ) → upto 4 (dues (state_of w)) (state_of w).hints.due ≡ dues (state_of w)
 settled_all w =
-    fun_ext (λ j. elim (cases_lt j 4) [ inl l ↦ picked _ _ _ (lt-ltb j 4 l) | inr m ↦ unpicked _ _ _ (le-ltb j 4 m) ∙ dues_beyond w j m ])
+    fun_ext (λ j. elim (cases_lt j 4) [ inl l ↦ cond-true _ _ _ (lt-ltb j 4 l) | inr m ↦ cond-false _ _ _ (le-ltb j 4 m) ∙ dues_beyond w j m ])
 
 -- a line for the first cores, and for one core more
 pub one_none : (h : State rv) (a : ℕ) (w : List ℕ) → h ≡ with_lines_of rv (deliver_one 0 a w h.lines) h

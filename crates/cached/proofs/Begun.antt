@@ -2,14 +2,14 @@
 use Rattle.std.proofs.Common.{◌≡◌, ℕ, ◌+◌, ◌*◌, ◌%◌, ◌<◌, ◌≤◌, Bool, true, false, ltb, List, length, get_or, drop, replicate, sym, refl, ap, ◌∙◌, inl, inr, arith, length-take}
 use mathlib.Core.Path.{fun_ext}
 use Rattle.std.proofs.lemmas.List.{get_or_past, get_or-replicate, length-replicate}
-use Rattle.std.proofs.lemmas.Bool.{cases_eq, cases_lt, eq-eqb, le-ltb, lt-ltb, ne_eqb}
+use Rattle.std.proofs.lemmas.Bool.{cases_eq, cases_lt, eq-eqb, le-ltb, lt-ltb, ne_eqb, cond-true, cond-false}
 use Rattle.words.specs.Parts.{part}
 use Rattle.words.proofs.Parts.{part_word}
 use Rattle.rv32.specs.Execute.{start}
 use Rattle.rv32.specs.declared.core_state.Core.{Core}
 use Rattle.cores.specs.Machines.{pick}
 use Rattle.cores.specs.Put.{put}
-use Rattle.cache.proofs.Written.{caches_clear, picked, unpicked}
+use Rattle.cache.proofs.Written.{caches_clear}
 use Rattle.link.proofs.Rows.{nothing_asked, nothing_granted}
 use Rattle.directory.proofs.Tables.{nobody_anywhere, nothing_requested}
 use Rattle.cached.specs.Layout.{state_of, sweeps_of, with_cpus, with_dues, with_ons, with_shared}
@@ -83,14 +83,14 @@ begun_more h h' h'' h''' k n c p q r t (clear, before) = (
         ap (λ (s : State rv). s.hints.due j) t ∙ ap (λ (s : State rv). put s.hints.due k true j) r ∙ ap (λ (s : State rv). put s.hints.due k true j) p in
         elim (cases_eq j k) [
           | inl e ↦ (
-            cpu ∙ picked _ _ _ (eq-eqb j k e) ∙ q ∙ ap start (sym e),
-            on ∙ picked _ _ _ (eq-eqb j k e) ∙ ap (λ m. ltb m n) (sym e),
-            due ∙ picked _ _ _ (eq-eqb j k e),
+            cpu ∙ cond-true _ _ _ (eq-eqb j k e) ∙ q ∙ ap start (sym e),
+            on ∙ cond-true _ _ _ (eq-eqb j k e) ∙ ap (λ m. ltb m n) (sym e),
+            due ∙ cond-true _ _ _ (eq-eqb j k e),
           )
           | inr ne ↦ (
-            cpu ∙ unpicked _ _ _ (ne_eqb j k ne) ∙ (before j (omega arith)).0,
-            on ∙ unpicked _ _ _ (ne_eqb j k ne) ∙ (before j (omega arith)).1,
-            due ∙ unpicked _ _ _ (ne_eqb j k ne) ∙ (before j (omega arith)).2,
+            cpu ∙ cond-false _ _ _ (ne_eqb j k ne) ∙ (before j (omega arith)).0,
+            on ∙ cond-false _ _ _ (ne_eqb j k ne) ∙ (before j (omega arith)).1,
+            due ∙ cond-false _ _ _ (ne_eqb j k ne) ∙ (before j (omega arith)).2,
           )
         ]
 
@@ -98,7 +98,7 @@ begun_more h h' h'' h''' k n c p q r t (clear, before) = (
 cpu_begun : (w : List ℕ) → ((j : ℕ) → j < 4 → (state_of w).cpu j ≡ start j) → (state_of w).cpu ≡ (λ j. pick (ltb j 4) (start j) (start 0))
 unfolding state_of
 cpu_begun w h =
-    fun_ext (λ j. elim (cases_lt j 4) [ inl l ↦ h j l ∙ sym (picked (ltb j 4) (start j) (start 0) (lt-ltb j 4 l)) | inr g ↦ rw (le-ltb j 4 g) refl ])
+    fun_ext (λ j. elim (cases_lt j 4) [ inl l ↦ h j l ∙ sym (cond-true (ltb j 4) (start j) (start 0) (lt-ltb j 4 l)) | inr g ↦ rw (le-ltb j 4 g) refl ])
 
 on_begun : (w : List ℕ) (n : ℕ) → n ≤ 4 → ((j : ℕ) → j < 4 → (state_of w).on j ≡ ltb j n) → (state_of w).on ≡ (λ j. ltb j n)
 unfolding state_of

@@ -4,7 +4,7 @@ use mathlib.Core.Path.{fun_ext}
 use borrow.Rule.Slice.PartMut.{put_mid}
 use Rattle.std.specs.List.{list_any}
 use Rattle.std.proofs.lemmas.List.{get_or-set_same, get_or-set_other}
-use Rattle.std.proofs.lemmas.Bool.{cases_eq, cases_lt, lt-ltb, le-ltb, eq-eqb, ne_eqb}
+use Rattle.std.proofs.lemmas.Bool.{cases_eq, cases_lt, lt-ltb, le-ltb, eq-eqb, ne_eqb, cond-true, cond-false}
 use Rattle.cores.specs.Board.{Out}
 use Rattle.cores.specs.Loop.{Step, silent, joined, then, each}
 use Rattle.cores.specs.Machines.{pick}
@@ -15,7 +15,6 @@ use Rattle.cores.specs.declared.port.Event.TheVariants as port
 use Rattle.cores.specs.declared.port.Line.{Line}
 use Rattle.cores.proofs.Basics.{append_nil}
 use Rattle.words.specs.Parts.{part}
-use Rattle.cache.proofs.Written.{picked, unpicked}
 use Rattle.link.specs.Messages.{Probe}
 use Rattle.link.proofs.Rows.{unasked_beyond}
 use Rattle.directory.specs.Directory.{question}
@@ -143,22 +142,22 @@ asks_more h s t a j o x p q r =
         ≡ pick (ltb i (j + 1)) (question h.lines.entry a o i) (h.hints.probe i)
     same i =
         elim (cases_eq i j) [
-          | inl e ↦ rw e (picked _ _ _ (eq-eqb j j refl) ∙ sym (picked _ _ _ (lt-ltb j (j + 1) (omega arith))))
-          | inr ne ↦ unpicked _ _ _ (ne_eqb i j ne) ∙ ap (λ b. pick b (question h.lines.entry a o i) (h.hints.probe i)) (step i ne)
+          | inl e ↦ rw e (cond-true _ _ _ (eq-eqb j j refl) ∙ sym (cond-true _ _ _ (lt-ltb j (j + 1) (omega arith))))
+          | inr ne ↦ cond-false _ _ _ (ne_eqb i j ne) ∙ ap (λ b. pick b (question h.lines.entry a o i) (h.hints.probe i)) (step i ne)
         ]
       where
         step : (i : ℕ) → (i ≡ j → ⊥) → ltb i j ≡ ltb i (j + 1)
         step i ne = elim (cases_lt i j) [ inl l ↦ lt-ltb i j l ∙ sym (lt-ltb i (j + 1) (omega arith)) | inr g ↦ le-ltb i j g ∙ sym (le-ltb i (j + 1) (omega arith)) ]
 
 pub asks_none : (h : State rv) (a : ℕ) (o : Bool) → h ≡ with_asked h (λ i. pick (ltb i 0) (question h.lines.entry a o i) (h.hints.probe i))
-asks_none h a o = ap (with_asked h) (fun_ext (λ i. sym (unpicked (ltb i 0) (question h.lines.entry a o i) (h.hints.probe i) (le-ltb i 0 (omega arith)))))
+asks_none h a o = ap (with_asked h) (fun_ext (λ i. sym (cond-false (ltb i 0) (question h.lines.entry a o i) (h.hints.probe i) (le-ltb i 0 (omega arith)))))
 
 -- all four are: nobody else is asked anything
 pub asks_all : (w : List ℕ) (a : ℕ) (o : Bool) → (λ i. pick (ltb i 4) (question (state_of w).lines.entry a o i) ((state_of w).hints.probe i)) ≡ question (state_of w).lines.entry a o
 unfolding state_of
 asks_all w a o =
     all_asked (part 237 512 w) a o (λ i. pick (ltb i 4) (question (state_of w).lines.entry a o i) ((state_of w).hints.probe i))
-    (λ j l. picked _ _ _ (lt-ltb j 4 l)) (λ j g. unpicked _ _ _ (le-ltb j 4 g) ∙ unasked_beyond (part 205 12 w) j g)
+    (λ j l. cond-true _ _ _ (lt-ltb j 4 l)) (λ j g. cond-false _ _ _ (le-ltb j 4 g) ∙ unasked_beyond (part 205 12 w) j g)
 
 around_small : (n t : ℕ) → n ≤ 4 → around n t < 4
 around_small n t h = elim (cases_lt t n) [ inl l ↦ rw (lt-ltb t n l) (omega arith) | inr g ↦ rw (le-ltb t n g) (omega arith) ]
@@ -178,8 +177,8 @@ looking_first h s e l = (l, λ n m. let three : n ≡ 3 = omega arith in ap (λ 
 pub looking_next : (h : State rv) (i t u : ℕ) (s : Control) → s ≡ shared h → s.count ≤ 4 → can_start rv h t ≡ false → u ≡ around s.count (t + 1) → Looking h i t → Looking h (i + 1) u
 looking_next h i t u s e m none p l = (
   rw p (around_small s.count (t + 1) m),
-  λ n r. ap (next_from h n) (p ∙ (λ j. around (e j).count (add-one t j))) ∙ sym (unpicked _ _ _ none) ∙ l.1 (suc n) (omega arith),
+  λ n r. ap (next_from h n) (p ∙ (λ j. around (e j).count (add-one t j))) ∙ sym (cond-false _ _ _ none) ∙ l.1 (suc n) (omega arith),
 )
 
 pub looking_found : (h : State rv) (i t : ℕ) → i < 3 → can_start rv h t ≡ true → Looking h i t → t ≡ next_start rv h
-looking_found h i t m e l = sym (picked _ _ _ e) ∙ l.1 (suc (2 - i)) (omega arith)
+looking_found h i t m e l = sym (cond-true _ _ _ e) ∙ l.1 (suc (2 - i)) (omega arith)

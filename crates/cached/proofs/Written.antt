@@ -3,9 +3,9 @@ use Rattle.std.proofs.Common.{◌≡◌, ℕ, zero, suc, ◌+◌, ◌*◌, ◌%�
 use mathlib.Core.Path.{fun_ext}
 use borrow.Rule.Slice.PartMut.{put_mid}
 use mir.Val.{bool_byte}
-use Rattle.std.proofs.lemmas.Bool.{cases_eq, cases_order, lt-ltb}
+use Rattle.std.proofs.lemmas.Bool.{cases_eq, cases_order, lt-ltb, cond-true}
 use Rattle.words.specs.Parts.{part, block, table}
-use Rattle.words.proofs.Parts.{part_is, part_here, part_other, part_part, part_word, apart}
+use Rattle.words.proofs.Parts.{part_is, part_here, part_other, part_part, part_word, apart, put_is}
 use Rattle.words.proofs.Tables.{within, within_written}
 use Rattle.cores.specs.Machines.{pick}
 use Rattle.cores.specs.Put.{put}
@@ -14,7 +14,6 @@ use Rattle.cores.proofs.CoreWords.{flag_byte}
 use Rattle.cache.specs.Own.{Own, with_own}
 use Rattle.cache.specs.Words.{caches_of, slots_of}
 use Rattle.cache.proofs.Own.{caches_changed, own_words}
-use Rattle.cache.proofs.Written.{picked, put_is}
 use Rattle.link.specs.Words.{grants_of, probes_of}
 use Rattle.directory.specs.Words.{entries_of, requests_of}
 use Rattle.cached.specs.Layout.{control_of, dues_of, sweeps_of, state_of, state_from, with_slots}
@@ -37,7 +36,7 @@ module _ {X : Type 0} (of : ℕ → X) (none : X) where
   row_within w = fun_ext (λ k. ap (λ x. pick (ltb k 4) x none) (sym (word_is w k)))
 
   pub row_read : (w : List ℕ) (k : ℕ) → k < 4 → words w k ≡ row w k
-  row_read w k h = word_is w k ∙ sym (picked _ _ _ (lt-ltb k 4 h))
+  row_read w k h = word_is w k ∙ sym (cond-true _ _ _ (lt-ltb k 4 h))
 
   pub row_written : (v w : List ℕ) (k : ℕ) (x : X) → k < 4 → words v ≡ put (words w) k x → row v ≡ put (row w) k x
   row_written v w k x h e = row_within v ∙ within_written 4 none (words w) (words v) k x h e ∙ ap (λ f. put f k x) (sym (row_within w))

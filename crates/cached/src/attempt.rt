@@ -6,7 +6,7 @@ ghost use Rattle.cache.specs.Slots.{cached, lacks, ready};
 ghost use Rattle.cache.specs.Words.{is_write, slots_of};
 ghost use Rattle.cached.specs.Puts.{lacking};
 
-use cache::lookup::{lack, word};
+use cache::lookup::{require, word};
 use cache::slot::Lack;
 use rv32::core_state::{Core, Effect, Need};
 use rv32::decode::decoded;
@@ -28,13 +28,9 @@ pub(crate) fn attempt(core: Core, cache: &[u32; 640], size: u32) -> Result<Effec
     let Some(number) = core.fetches(size) else {
         return Ok(Effect::Stops);
     };
-    if let Some(missing) = lack(cache, Need::Read(number)) {
-        return Err(missing);
-    }
+    require(cache, Need::Read(number))?;
     let instruction = decoded(word(cache, number));
     let need = core.needs(size, instruction);
-    if let Some(missing) = lack(cache, need) {
-        return Err(missing);
-    }
+    require(cache, need)?;
     Ok(core.executes(size, instruction, operand(cache, need)))
 }

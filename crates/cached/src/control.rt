@@ -2,6 +2,7 @@
 use cores::port::{Event, Line};
 
 // How many cores there are, how many lines memory has, whose request the probes are for, whose turn it is, and which of two ways is replaced next.
+// The contracts of what reads and writes it say that the cores' numbers are below 4: ghost fields would put proofs into what words mean.
 #[derive(Clone, Copy)]
 pub struct Control {
     pub count: usize,

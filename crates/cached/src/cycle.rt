@@ -41,6 +41,7 @@ fn act_all(chip: &mut Chip, up: [bool; 4], said: &mut [u32]) -> Deeds
     requires { length said.old ≡ 8 }
     ensures { (state_of chip.new, all_acted result.wrote (said_of said.new) result.did) ≡ each (act rv (λ k. slice_index_or up k false)) 4 (state_of chip.old) }
 {
+    // A loop, as a closure that lends the chip on tells nothing of what it leaves there.
     let mut wrote = [None; 4];
     let mut did = [None; 8];
     for k in 0..4 {

@@ -260,6 +260,7 @@ pub(crate) fn take_all(chip: &mut Chip)
 pub(crate) fn answer_all(chip: &mut Chip) -> [Option<Line>; 4]
     ensures { (state_of chip.new, all_writes result) ≡ each (answer_probe rv) 4 (state_of chip.old) }
 {
+    // A loop, as a closure that lends the chip on tells nothing of what it leaves there.
     let mut written = [None; 4];
     for k in 0..4 {
         written[k] = answer_probe(chip, k);

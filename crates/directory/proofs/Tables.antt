@@ -1,10 +1,9 @@
 -- The directory's tables in lent words, as a new one and beyond their ends; and probes to all cores.
 use Rattle.std.proofs.Common.{◌≡◌, ℕ, suc, ◌%◌, ◌<◌, ◌≤◌, Bool, eqb, List, get_or, Some, None, sym, ap, ◌∙◌, ap₂, inl, inr, arith}
 use mathlib.Core.Path.{fun_ext}
-use Rattle.std.proofs.lemmas.Bool.{cases_lt, le-ltb}
+use Rattle.std.proofs.lemmas.Bool.{cases_lt, le-ltb, cond-false}
 use Rattle.cores.specs.Machines.{pick}
 use Rattle.cache.specs.Slots.{home}
-use Rattle.cache.proofs.Written.{unpicked}
 use Rattle.link.specs.Messages.{Probe, ask, unasked}
 use Rattle.link.specs.Words.{flag}
 use Rattle.link.proofs.Tables.{table_cleared}
@@ -25,7 +24,7 @@ nothing_requested w z =
 
 -- nobody is known of beyond the 256 places
 pub nobody_beyond : (w : List ℕ) (p : ℕ) → 256 ≤ p → entries_of w p ≡ nobody
-nobody_beyond w p h = unpicked _ _ _ (le-ltb p 256 h)
+nobody_beyond w p h = cond-false _ _ _ (le-ltb p 256 h)
 
 -- so no core beyond the four is asked for anything
 pub question_beyond : (w : List ℕ) (a : ℕ) (o : Bool) (j : ℕ) → 4 ≤ j → question (entries_of w) a o j ≡ unasked

@@ -2,11 +2,10 @@
 use Rattle.std.proofs.Common.{◌≡◌, ℕ, ◌+◌, ◌*◌, ◌%◌, ◌<◌, ◌≤◌, Bool, true, false, not, ◌&&◌, eqb, List, [], ◌∷◌, length, get_or, Some, None, sym, refl, ap, ◌∙◌, ap₂, arith}
 use borrow.Rule.Slice.PartMut.{put_mid}
 use Rattle.std.specs.List.{list_all, range_with_len}
-use Rattle.std.proofs.lemmas.Bool.{le-ltb, ne_eqb}
+use Rattle.std.proofs.lemmas.Bool.{le-ltb, ne_eqb, cond-true, cond-false}
 use Rattle.words.specs.Parts.{part}
 use Rattle.words.proofs.Parts.{part_here, put_length}
 use Rattle.cores.specs.Machines.{pick}
-use Rattle.cache.proofs.Written.{picked, unpicked}
 use Rattle.cache.specs.Slots.{Slot}
 use Rattle.cache.specs.declared.slot.Access.TheVariants.{Read, Write}
 use Rattle.cache.specs.Words.{content_of, slot_of}
@@ -28,7 +27,7 @@ nobody w r e = let f = probes_of w in e ∙ all_four (is_unasked (f 0)) (is_unas
 
 -- a grant that is read, and one that is written, the first two words first
 pub grant_read : (b : List ℕ) (k i : ℕ) (x : Slot) → (get_or b 0 0 ≡ 0 → ⊥) → i ≡ get_or b 1 0 % 64 → x ≡ slot_of (part 2 10 b) → grant (64 * k + i) x ≡ grant_in k b
-grant_read b k i x e s f = ap₂ (λ j y. grant (64 * k + j) y) s f ∙ sym (picked _ _ _ (ap not (ne_eqb (get_or b 0 0) 0 e)))
+grant_read b k i x e s f = ap₂ (λ j y. grant (64 * k + j) y) s f ∙ sym (cond-true _ _ _ (ap not (ne_eqb (get_or b 0 0) 0 e)))
 
 pub grant_written : (b ys zs : List ℕ) (g : Grant) (k n : ℕ) → length b ≡ 12 → n < 64 → n ≡ g.slot → ys ≡ 1 ∷ n ∷ [] → length zs ≡ 10 → slot_of zs ≡ content_of g.content →
     grant_in k (put_mid 2 10 (put_mid 0 2 b ys) zs) ≡ grant_of k (Some g)
@@ -48,4 +47,4 @@ nothing_asked w z = table_cleared (λ k b. probe_of k (probe_in b)) unasked 4 3 
 
 -- nobody beyond the four is asked
 pub unasked_beyond : (w : List ℕ) (k : ℕ) → 4 ≤ k → probes_of w k ≡ unasked
-unasked_beyond w k h = unpicked _ _ _ (le-ltb k 4 h)
+unasked_beyond w k h = cond-false _ _ _ (le-ltb k 4 h)

@@ -24,6 +24,6 @@ returns c =
     let m = c.needs-need.result in
     let e : fetch n r ≡ Some x = sym c.fetches.ensures.value ∙ c.in-Some.is in
     let p : i ≡ decode (cached f 0 x) = c.decoded-instruction.ensures ∙ ap decode c.word.ensures in (
-      data_lacked n r f x i m e c.in_default-lack.ensures p c.needs-need.ensures.value ∙ sym c.in_default-lack-2.ensures,
+      data_lacked n r f x i m e c.in_ok-require.ensures p c.needs-need.ensures.value ∙ sym c.in_ok-require-2.ensures,
       done_with n r f x i m c.operand.result c.executes.result e p c.needs-need.ensures.value c.operand.ensures c.executes.ensures.value,
     )

@@ -1,7 +1,6 @@
 -- The slice is not too short, and the words that are used are the first.
 use Rattle.std.proofs.Common.{length, ap, ◌∙◌}
-use Rattle.std.proofs.lemmas.Bool.{le-ltb}
-use Rattle.cache.proofs.Written.{unpicked}
+use Rattle.std.proofs.lemmas.Bool.{le-ltb, cond-false}
 use Rattle.cached.specs.Layout.{state_of}
 use Rattle.cached.specs.Stopped.{all_off}
 use Rattle.cached.proofs.Written.{read_front}
@@ -11,6 +10,6 @@ pub returns : goal.returns
 returns c =
     let w = c.args.chip.now in
     let first = rw c.unwrap.ensures at c.first_chunk.ensures.cases in (
-      unpicked _ _ _ (le-ltb (length w) 16384 c.if-chip-lt16384.false),
+      cond-false _ _ _ (le-ltb (length w) 16384 c.if-chip-lt16384.false),
       c.all_off.ensures ∙ ap (λ v. all_off (state_of v)) first.same ∙ ap all_off (read_front w),
     )
