@@ -5,15 +5,15 @@ use borrow.Rule.Slice.PartMut.{put_mid}
 use lib.Seq.{take-set-lt, drop-set-add}
 use Rattle.std.proofs.lemmas.List.{get_or-set_same, get_or-set_other}
 use Rattle.std.proofs.lemmas.Bool.{eqb-true, lt-ltb, cond-true}
-use Rattle.words.specs.Parts.{part, block}
+use Rattle.words.specs.Parts.{part, block, table}
 use Rattle.words.proofs.Parts.{part_word}
+use Rattle.words.proofs.Tables.{place_written, within_written}
 use Rattle.cores.specs.Machines.{pick}
 use Rattle.cores.specs.Put.{put}
-use Rattle.cache.specs.Slots.{holds, has, words, Found, found, word_at}
+use Rattle.cache.specs.Slots.{empty, holds, has, words, Found, found, word_at}
 use Rattle.cache.specs.Words.{holding, tag_of, slot_of, slots_of, stored_at}
 use Rattle.cache.specs.declared.slot.Slot.{Slot}
 use Rattle.cache.specs.declared.slot.Slot.TheVariants.{Empty, Shared, Owned}
-use Rattle.cache.proofs.Written.{table_written}
 
 has_words : (s : Slot) (w : List ℕ) (a : ℕ) → has (holding s w) a ≡ true → words (holding s w) ≡ w
 has_words Empty w a h = absurd (false≢true h)
@@ -64,5 +64,5 @@ stored_here b y v l h =
 pub stored_slots : (w ys : List ℕ) (i n y v : ℕ) → i < 64 → length w ≡ 640 → length ys ≡ 10 → n ≡ 10 →
     slot_of ys ≡ holds (y / 8) true true (set (words (slot_of (block 10 w i))) (y % 8) v) → slots_of (put_mid (10 * i) n w ys) ≡ stored_at (found i) y v (slots_of w)
 stored_slots w ys i n y v h l e m x =
-    table_written 64 w ys i n _ h (omega arith) e m x
+    within_written 64 empty (table 10 (λ _. slot_of) w) _ i _ h (place_written 10 (λ _. slot_of) w i 10 n ys _ refl m e (omega arith) x)
     ∙ ap (λ s. put (slots_of w) i (holds (y / 8) true true (set (words s) (y % 8) v))) (sym (slot_here w i h))
