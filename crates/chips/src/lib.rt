@@ -12,8 +12,10 @@ ghost use Rattle.cores.specs.Rv32.{rv32};
 use cores::port::{Fault, Line, Out};
 
 pub mod promises;
+mod with_caches;
 mod without_caches;
 
+pub use with_caches::Cached;
 pub use without_caches::Uncached;
 
 // A chip whose state lies in lent words. A kind of chip is a type without values: whatever is generic in it holds of each.
