@@ -1,4 +1,5 @@
 // Small programs on the chip, steady and by choices, and its events on the machines.
+use chips::{Cached, LentChip, Uncached};
 use reference::machines::{Machines, Outcome};
 use std::alloc::Global;
 use std::process::Abort;
@@ -74,9 +75,7 @@ fn image_of(heap: Global, program: Program) -> Result<Vec<u8>, Fail> {
     for word in program.words {
         bytes.extend_from_slice(&word.to_le_bytes())?;
     }
-    for _ in 20..64 {
-        bytes.extend_from_slice(&[0, 0, 0, 0])?;
-    }
+    bytes.resize(9 + 256, 0)?;
     Ok(bytes)
 }
 
@@ -89,9 +88,7 @@ fn agrees(
     board: &[u32],
 ) -> Result<(), Fail> {
     let mut memory = [0u32; 64];
-    for (place, word) in memory.iter_mut().zip(program.words.iter()) {
-        *place = *word;
-    }
+    memory[0..20].copy_from_slice(&program.words);
     let Some(mut machines) = Machines::new(program.cores as usize) else {
         return Err(Fail::new("more than four cores"));
     };
@@ -102,23 +99,21 @@ fn agrees(
     {
         return Err(Fail::new("not run"));
     }
-    let said = recorder.said.as_slice();
-    let mut at = 0;
+    let mut said = recorder.said.iter();
     for outcome in outcomes.iter() {
         match *outcome {
             Outcome::Said { core, word } => {
-                if at >= said.len() {
+                let Some(heard) = said.next() else {
                     return Err(Fail::new("more is said by the machines"));
-                }
-                assert_eq!(rt; said[at].core, core);
-                assert_eq!(rt; said[at].word, word);
-                at += 1;
+                };
+                assert_eq!(rt; heard.core, core);
+                assert_eq!(rt; heard.word, word);
             }
             Outcome::Done | Outcome::Stopped => {}
             Outcome::Off | Outcome::NotLet => return Err(Fail::new("an event that is not allowed")),
         }
     }
-    assert!(rt; at == said.len(), "more is said by the chip");
+    assert!(rt; said.next().is_none(), "more is said by the chip");
     for (ours, theirs) in memory.iter().zip(board.iter()) {
         assert_eq!(rt; *ours, *theirs);
     }
@@ -126,7 +121,7 @@ fn agrees(
 }
 
 // What the chip says of a program on the steady board.
-fn steady(
+fn steady<K: LentChip>(
     rt: &impl Abort,
     heap: Global,
     program: Program,
@@ -138,7 +133,7 @@ fn steady(
     let mut chip = vec![in heap; 0u32; 16384]?;
     let mut said = [0u32; 16];
     let mut recorder = Recorder::new(heap);
-    let ended = run_steady(
+    let ended = run_steady::<K, Recorder>(
         bytes.as_slice(),
         late,
         cycles,
@@ -159,19 +154,55 @@ fn says(rt: &impl Abort, recorder: &Recorder, words: &[u32]) {
     }
 }
 
+// What is said, lowest word first: cores with caches need not speak in the order of their numbers.
+fn says_in_some_order(
+    rt: &impl Abort,
+    heap: Global,
+    recorder: &Recorder,
+    words: &[u32],
+) -> Result<(), Fail> {
+    let mut said = Vec::new(heap);
+    for heard in recorder.said.iter() {
+        said.push(heard.word)?;
+    }
+    said.as_mut_slice().sort(heap)?;
+    assert_eq!(rt; said.as_slice(), words);
+    Ok(())
+}
+
 #[test]
 fn programs_say_the_same_on_the_steady_board(rt: HostRuntime) -> Result<(), Fail> {
     for late in [0, 3, 100] {
-        says(&rt, &steady(&rt, rt.alloc(), A, late, 10_000)?, &[7]);
-        says(&rt, &steady(&rt, rt.alloc(), B, late, 10_000)?, &[55]);
-        says(&rt, &steady(&rt, rt.alloc(), C, late, 10_000)?, &[9]);
         says(
             &rt,
-            &steady(&rt, rt.alloc(), D, late, 10_000)?,
+            &steady::<Uncached>(&rt, rt.alloc(), A, late, 10_000)?,
+            &[7],
+        );
+        says(
+            &rt,
+            &steady::<Uncached>(&rt, rt.alloc(), B, late, 10_000)?,
+            &[55],
+        );
+        says(
+            &rt,
+            &steady::<Uncached>(&rt, rt.alloc(), C, late, 10_000)?,
+            &[9],
+        );
+        says(
+            &rt,
+            &steady::<Uncached>(&rt, rt.alloc(), D, late, 10_000)?,
             &[0, 1, 2, 3],
         );
-        says(&rt, &steady(&rt, rt.alloc(), E, late, 10_000)?, &[0, 1]);
-        says(&rt, &steady(&rt, rt.alloc(), G, late, 1_000)?, &[]);
+        says(
+            &rt,
+            &steady::<Uncached>(&rt, rt.alloc(), E, late, 10_000)?,
+            &[0, 1],
+        );
+        says(
+            &rt,
+            &steady::<Uncached>(&rt, rt.alloc(), G, late, 1_000)?,
+            &[],
+        );
     }
     Ok(())
 }
@@ -190,14 +221,19 @@ fn choices_of(heap: Global, cycles: u32) -> Result<Vec<u8>, Fail> {
     Ok(bytes)
 }
 
-fn by_choices(rt: &impl Abort, heap: Global, program: Program) -> Result<Recorder, Fail> {
+fn by_choices<K: LentChip>(
+    rt: &impl Abort,
+    heap: Global,
+    program: Program,
+    cycles: u32,
+) -> Result<Recorder, Fail> {
     let bytes = image_of(heap, program)?;
-    let choices = choices_of(heap, 400)?;
+    let choices = choices_of(heap, cycles)?;
     let mut board = [0u32; 1088];
     let mut chip = vec![in heap; 0u32; 16384]?;
     let mut said = [0u32; 16];
     let mut recorder = Recorder::new(heap);
-    let ended = run(
+    let ended = run::<K, Recorder>(
         bytes.as_slice(),
         choices.as_slice(),
         &mut board,
@@ -212,11 +248,54 @@ fn by_choices(rt: &impl Abort, heap: Global, program: Program) -> Result<Recorde
 
 #[test]
 fn programs_say_the_same_by_choices(rt: HostRuntime) -> Result<(), Fail> {
-    says(&rt, &by_choices(&rt, rt.alloc(), A)?, &[7]);
-    says(&rt, &by_choices(&rt, rt.alloc(), B)?, &[55]);
-    says(&rt, &by_choices(&rt, rt.alloc(), C)?, &[9]);
-    says(&rt, &by_choices(&rt, rt.alloc(), D)?, &[0, 1, 2, 3]);
-    says(&rt, &by_choices(&rt, rt.alloc(), E)?, &[0, 1]);
-    says(&rt, &by_choices(&rt, rt.alloc(), G)?, &[12]);
+    says(&rt, &by_choices::<Uncached>(&rt, rt.alloc(), A, 400)?, &[7]);
+    says(
+        &rt,
+        &by_choices::<Uncached>(&rt, rt.alloc(), B, 400)?,
+        &[55],
+    );
+    says(&rt, &by_choices::<Uncached>(&rt, rt.alloc(), C, 400)?, &[9]);
+    says(
+        &rt,
+        &by_choices::<Uncached>(&rt, rt.alloc(), D, 400)?,
+        &[0, 1, 2, 3],
+    );
+    says(
+        &rt,
+        &by_choices::<Uncached>(&rt, rt.alloc(), E, 400)?,
+        &[0, 1],
+    );
+    says(
+        &rt,
+        &by_choices::<Uncached>(&rt, rt.alloc(), G, 400)?,
+        &[12],
+    );
+    Ok(())
+}
+
+// The programs with the words that they say.
+const SAID: [(Program, &[u32]); 5] = [
+    (A, &[7]),
+    (B, &[55]),
+    (C, &[9]),
+    (D, &[0, 1, 2, 3]),
+    (E, &[0, 1]),
+];
+
+#[test]
+fn programs_say_the_same_with_caches(rt: HostRuntime) -> Result<(), Fail> {
+    for (program, words) in SAID {
+        for late in [0, 3, 100] {
+            let recorder = steady::<Cached>(&rt, rt.alloc(), program, late, 10_000)?;
+            says_in_some_order(&rt, rt.alloc(), &recorder, words)?;
+        }
+        let recorder = by_choices::<Cached>(&rt, rt.alloc(), program, 10_000)?;
+        says_in_some_order(&rt, rt.alloc(), &recorder, words)?;
+    }
+    says(
+        &rt,
+        &by_choices::<Cached>(&rt, rt.alloc(), G, 10_000)?,
+        &[12],
+    );
     Ok(())
 }

@@ -4,6 +4,7 @@
 mod options;
 
 use anyhow::anyhow;
+use chips::Uncached;
 use command::end::run_or_help;
 use command::files::{bytes_of, save_memory};
 use cores::port::Event;
@@ -124,7 +125,7 @@ fn run(rt: &HostRuntime, options: &Options) -> anyhow::Result<bool> {
     let mut said = [0u32; 16];
     let mut recorder = Recorder::new(rt.alloc());
     let result = match &options.outside {
-        Outside::Choices(_) => run_choices(
+        Outside::Choices(_) => run_choices::<Uncached, Recorder>(
             memory.as_slice(),
             first_cycles(choices.as_slice(), cores, options.cycles),
             board.as_mut_slice(),
@@ -132,7 +133,7 @@ fn run(rt: &HostRuntime, options: &Options) -> anyhow::Result<bool> {
             &mut said,
             &mut recorder,
         ),
-        Outside::Steady(late) => run_steady(
+        Outside::Steady(late) => run_steady::<Uncached, Recorder>(
             memory.as_slice(),
             *late,
             options.cycles,

@@ -1,6 +1,7 @@
 // Runs memories on the chip and the steady board, then the chip's events on the machines, and prints what both say.
 #![tactic(auto)]
 
+use chips::Uncached;
 use cores::port::Event;
 use image::{load, read_header};
 use reference::machines::{Machines, Outcome};
@@ -29,7 +30,7 @@ fn on_chip(
     let mut chip = vec![in rt.alloc(); 0u32; 16384]?;
     let mut words = [0u32; 16];
     let mut recorder = Recorder::new(rt.alloc());
-    let result = run_steady(
+    let result = run_steady::<Uncached, Recorder>(
         image,
         late,
         10_000_000,
