@@ -1,9 +1,0 @@
-// The chip on the board: run by choices, and on the steady board.
-#![tactic(auto)]
-
-mod cycles;
-pub mod listener;
-pub mod recorder;
-pub mod run;
-pub mod steady;
-mod step;
