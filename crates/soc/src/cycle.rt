@@ -12,13 +12,12 @@ ghost use Rattle.soc.specs.Soc.{act, cycle, finish, fresh, received, take_interr
 ghost use Rattle.soc.specs.Turn.{EmptyFrom, only_did, put_out};
 
 use crate::control::{Act, Control};
-use crate::state::{control, core, is_on, set_control, set_core, set_on};
+use crate::state::{Chip, control, core, is_on, set_control, set_core, set_on};
 use cores::port::{Event, Fault, Line, Out};
 use rv32::core_state::{Core, Effect};
 
 // A line comes for the core whose turn it is. At most one is asked for, so the first is all that come.
-fn receive(chip: &mut [u32], given: &[Line])
-    requires { 169 ≤ length chip.old }
+fn receive(chip: &mut Chip, given: &[Line])
     ensures { state_of chip.new ≡ received rv (map line_of given.now) (state_of chip.old) }
 {
     let [line, ..] = given else {
@@ -30,8 +29,8 @@ fn receive(chip: &mut [u32], given: &[Line])
 }
 
 // Core k takes an interrupt if it goes, its line is up, and it lets them.
-fn take_interrupt(chip: &mut [u32], up: [bool; 4], k: usize) -> Option<Event>
-    requires { (k < 4) × (169 ≤ length chip.old) }
+fn take_interrupt(chip: &mut Chip, up: [bool; 4], k: usize) -> Option<Event>
+    requires { k < 4 }
     ensures state { state_of chip.new ≡ (take_interrupt rv (λ j. slice_index_or up j false) k (state_of chip.old)).0 }
     ensures out { only_did (somes event_of (result ∷ [])) ≡ (take_interrupt rv (λ j. slice_index_or up j false) k (state_of chip.old)).1 }
 {
@@ -45,8 +44,7 @@ fn take_interrupt(chip: &mut [u32], up: [bool; 4], k: usize) -> Option<Event>
 }
 
 // Each core may take an interrupt: what was taken, in the first places of a row.
-fn take_interrupts(chip: &mut [u32], up: [bool; 4]) -> [Option<Event>; 8]
-    requires { 169 ≤ length chip.old }
+fn take_interrupts(chip: &mut Chip, up: [bool; 4]) -> [Option<Event>; 8]
     ensures state { state_of chip.new ≡ (each (take_interrupt rv (λ j. slice_index_or up j false)) 4 (state_of chip.old)).0 }
     ensures out { only_did (somes event_of result) ≡ (each (take_interrupt rv (λ j. slice_index_or up j false)) 4 (state_of chip.old)).1 }
     ensures row { EmptyFrom 4 result }
@@ -59,8 +57,7 @@ fn take_interrupts(chip: &mut [u32], up: [bool; 4]) -> [Option<Event>; 8]
 }
 
 // The instruction of the core whose turn it is is done, and the turn passes.
-fn finish(chip: &mut [u32], effect: Effect) -> Act
-    requires { 169 ≤ length chip.old }
+fn finish(chip: &mut Chip, effect: Effect) -> Act
     ensures state { state_of chip.new ≡ (finish rv (done effect) (state_of chip.old)).0 }
     ensures out { put_out (state_of chip.old).turn result ≡ (finish rv (done effect) (state_of chip.old)).1 }
 {
@@ -77,8 +74,7 @@ fn finish(chip: &mut [u32], effect: Effect) -> Act
 }
 
 // The core whose turn it is gets on.
-fn act(chip: &mut [u32]) -> Act
-    requires { 169 ≤ length chip.old }
+fn act(chip: &mut Chip) -> Act
     ensures state { state_of chip.new ≡ (act rv (state_of chip.old)).0 }
     ensures out { put_out (state_of chip.old).turn result ≡ (act rv (state_of chip.old)).1 }
 {
@@ -169,9 +165,10 @@ fn put_out(did: [Option<Event>; 8], k: usize, act: Act, said: &mut [u32]) -> Out
 }
 
 // The steps of a cycle, on the words that are used.
-fn steps(chip: &mut [u32], given: &[Line], up: [bool; 4], said: &mut [u32]) -> Out
-    requires { (169 ≤ length chip.old) × (length said.old ≡ 8) }
-    ensures { (state_of chip.new, out_of result said.new) ≡ cycle rv (state_of chip.old) (map line_of given.now) (λ k. slice_index_or up k false) }
+fn steps(chip: &mut Chip, given: &[Line], up: [bool; 4], said: &mut [u32]) -> Out
+    requires { length said.old ≡ 8 }
+    ensures value { (state_of chip.new, out_of result said.new) ≡ cycle rv (state_of chip.old) (map line_of given.now) (λ k. slice_index_or up k false) }
+    ensures long { length chip.new ≡ 169 }
 {
     receive(chip, given);
     let did = take_interrupts(chip, up);
@@ -186,7 +183,8 @@ fn cycle_in(chip: &mut [u32], given: &[Line], up: [bool; 4], said: &mut [u32]) -
     ensures unused { drop 169 chip.new ≡ drop 169 chip.old }
     ensures unsaid { drop 8 said.new ≡ drop 8 said.old }
 {
-    steps(&mut chip[0..169], given, up, &mut said[0..8])
+    let used = chip.first_chunk_mut().unwrap();
+    steps(used, given, up, &mut said[0..8])
 }
 
 // One cycle: the lines that come and whose interrupt lines are up go in, and what is put out comes back, the words said in `said`, two for each core.
@@ -209,9 +207,10 @@ pub fn cycle(
 }
 
 // A new chip, on the words that are used.
-fn begin(chip: &mut [u32], cores: usize, lines: u32)
-    requires { (169 ≤ length chip.old) × (cores ≤ 4) }
-    ensures { state_of chip.new ≡ fresh rv cores lines }
+fn begin(chip: &mut Chip, cores: usize, lines: u32)
+    requires { cores ≤ 4 }
+    ensures value { state_of chip.new ≡ fresh rv cores lines }
+    ensures long { length chip.new ≡ 169 }
 {
     for k in 0..4 {
         set_core(chip, k, Core::new(k as u32));
@@ -235,7 +234,8 @@ fn fresh_in(chip: &mut [u32], cores: usize, lines: u32)
     ensures done { state_of chip.new ≡ fresh rv cores lines }
     ensures unused { drop 169 chip.new ≡ drop 169 chip.old }
 {
-    begin(&mut chip[0..169], cores, lines);
+    let used = chip.first_chunk_mut().unwrap();
+    begin(used, cores, lines);
 }
 
 // A new chip of 1 to 4 cores, for a memory of so many lines. Fewer than 16,384 words, or another number of cores, are refused, and nothing is changed.
@@ -252,6 +252,12 @@ pub fn fresh(chip: &mut [u32], cores: usize, lines: u32) -> Result<(), Fault>
     Ok(())
 }
 
+fn none_goes(chip: &Chip) -> bool
+    ensures { result ≡ all_off (state_of chip.now) }
+{
+    !(0..4).any(|k| is_on(chip, k))
+}
+
 // Whether every core has stopped. Fewer than 16,384 words are refused.
 pub fn all_stopped(chip: &[u32]) -> Result<bool, Fault>
     ensures { MatchResult result (λ b. (stopped_fault (length chip.now) ≡ None) × (b ≡ all_off (state_of chip.now))) (λ f. stopped_fault (length chip.now) ≡ Some f) }
@@ -259,5 +265,5 @@ pub fn all_stopped(chip: &[u32]) -> Result<bool, Fault>
     if chip.len() < 16384 {
         return Err(Fault::ChipShort);
     }
-    Ok(!(0..4).any(|k| is_on(chip, k)))
+    Ok(none_goes(chip.first_chunk().unwrap()))
 }

@@ -8,6 +8,9 @@ use cores::registers::{Flags, Registers};
 use rv32::core_state::Core;
 use words::table::{at, put_at};
 
+// The lent words of a chip that are used.
+pub(crate) type Chip = [u32; 169];
+
 fn read_buffer(block: &[u32]) -> Option<Line>
     requires { length block.now ≡ 10 }
     ensures { result ≡ buffer_of block.now }
@@ -73,46 +76,45 @@ fn write_control(block: &mut [u32], control: Control)
 }
 
 // The registers of core k.
-pub(crate) fn core(chip: &[u32], k: usize) -> Core
-    requires { (k < 4) × (169 ≤ length chip.now) }
+pub(crate) fn core(chip: &Chip, k: usize) -> Core
+    requires { k < 4 }
     ensures { result ≡ (state_of chip.now).cpu k }
 {
     at::<Registers>(&chip[0..140], k)
 }
 
-pub(crate) fn set_core(chip: &mut [u32], k: usize, core: Core)
-    requires { (k < 4) × (169 ≤ length chip.old) }
+pub(crate) fn set_core(chip: &mut Chip, k: usize, core: Core)
+    requires { k < 4 }
     ensures { state_of chip.new ≡ with_cpu (state_of chip.old) k core }
 {
     put_at::<Registers>(&mut chip[0..140], k, core);
 }
 
 // Whether core k goes.
-pub(crate) fn is_on(chip: &[u32], k: usize) -> bool
-    requires { (k < 4) × (169 ≤ length chip.now) }
+pub(crate) fn is_on(chip: &Chip, k: usize) -> bool
+    requires { k < 4 }
     ensures { result ≡ (state_of chip.now).on k }
 {
     at::<Flags>(&chip[140..144], k)
 }
 
-pub(crate) fn set_on(chip: &mut [u32], k: usize, on: bool)
-    requires { (k < 4) × (169 ≤ length chip.old) }
+pub(crate) fn set_on(chip: &mut Chip, k: usize, on: bool)
+    requires { k < 4 }
     ensures { state_of chip.new ≡ with_on (state_of chip.old) k on }
 {
     put_at::<Flags>(&mut chip[140..144], k, on);
 }
 
 // What the cores share.
-pub(crate) fn control(chip: &[u32]) -> Control
-    requires { 169 ≤ length chip.now }
+pub(crate) fn control(chip: &Chip) -> Control
     ensures value { result ≡ shared (state_of chip.now) }
     ensures within { (result.count ≤ 4) × (result.turn < 4) }
 {
     read_control(&chip[144..169])
 }
 
-pub(crate) fn set_control(chip: &mut [u32], control: Control)
-    requires { (169 ≤ length chip.old) × ((control.count ≤ 4) × (control.turn < 4)) }
+pub(crate) fn set_control(chip: &mut Chip, control: Control)
+    requires { (control.count ≤ 4) × (control.turn < 4) }
     ensures { state_of chip.new ≡ with_shared (state_of chip.old) control }
 {
     write_control(&mut chip[144..169], control);

@@ -8,4 +8,4 @@ pub returns : goal.returns
 returns c =
     let w = c.args.chip.now in
     let ys = c.begin.new.chip in
-    record { done = wrote_front w ys (omega arith) (omega arith) ∙ c.begin.ensures; unused = drop-put_mid 0 169 w ys 169 (omega arith) (omega arith) (omega arith) }
+    record { done = wrote_front w ys (omega arith) (omega arith) ∙ c.begin.ensures.value; unused = drop-put_mid 0 169 w ys 169 (omega arith) (omega arith) (omega arith) }
