@@ -26,6 +26,7 @@ fn read_row(words: &[u32]) -> Row
     requires { length words.now ≡ 1024 }
     ensures { items_of result ≡ row_in words.now }
 {
+    // A loop, as `array::from_fn` tells of each call by itself and not of the row.
     let mut waiting = ArrayVec::new();
     for i in 0..words[32].min(16) as usize {
         waiting.push(Waiting {

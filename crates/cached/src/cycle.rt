@@ -70,9 +70,9 @@ fn in_four(row: [Option<Line>; 8]) -> [Option<Line>; 4]
 {
     let mut four = [None; 4];
     let mut n = 0;
-    for i in 0..8 {
-        if row[i].is_some() {
-            four[n] = row[i];
+    for place in &row {
+        if place.is_some() {
+            four[n] = *place;
             n += 1;
         }
     }

@@ -1,4 +1,5 @@
 // The regions that cores and directory have in common: what is on its way to each core, requests, entries, and the slots of the caches.
+// One function reads and one writes each region, named for what lies there: that only that part of the state changes is proved of each by itself.
 ghost use Rattle.std.specs.Prelude.{◌≡◌, ◌+◌, ◌*◌, ◌<◌, not, length};
 ghost use Rattle.cores.specs.Put.{put};
 ghost use Rattle.cache.specs.Own.{Own};

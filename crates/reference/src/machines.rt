@@ -12,7 +12,7 @@ pub struct Machine {
     pub on: bool,
 }
 
-// The first `count` of four machines.
+// The first `count` of four machines. The fields are public and take any count, which a type that bounds it would not.
 #[derive(Clone, Copy)]
 pub struct Machines {
     pub machines: [Machine; 4],

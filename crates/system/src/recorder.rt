@@ -14,7 +14,7 @@ pub struct Said {
     pub word: u32,
 }
 
-// The words said and the events done, and how many of these fell in each cycle.
+// The words said and the events done, and how many of these fell in each cycle: the events lie in one row, since the machines do them as one.
 #[derive(Drop)]
 pub struct Recorder {
     pub said: Vec<Said>,

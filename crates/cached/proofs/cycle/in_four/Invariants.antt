@@ -2,5 +2,5 @@
 use Rattle.cached.proofs.Gathered.{Gathered}
 use Rattle.cached.proofs.cycle.in_four.Given as goal
 
-abbrev pub invariant-loop-i : goal.invariant-loop-i
-invariant-loop-i l = Gathered l.row l.i l.four l.n
+abbrev pub invariant-loop-place : goal.invariant-loop-place
+invariant-loop-place l = Gathered l.fn.row l.place-index l.four l.n
