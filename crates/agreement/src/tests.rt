@@ -93,12 +93,9 @@ fn agrees(
         return Err(Fail::new("more than four cores"));
     };
     let mut outcomes = Vec::new(heap);
-    if machines
+    machines
         .run(&mut memory, recorder.did.as_slice(), &mut outcomes)
-        .is_err()
-    {
-        return Err(Fail::new("not run"));
-    }
+        .map_err(|_| Fail::new("not run"))?;
     let mut said = recorder.said.iter();
     for outcome in outcomes.iter() {
         match *outcome {

@@ -63,7 +63,7 @@ impl Row {
         ensures { map line_in (items_of result) ≡ kept places.now 0 (map line_in (items_of self.now)) }
     {
         Row {
-            waiting: self.chosen(|i, w| if is_among(places, i) { None } else { Some(w) }),
+            waiting: self.chosen(|i, w| (!is_among(places, i)).then_some(w)),
         }
     }
 

@@ -139,7 +139,7 @@ own_words_written v w ys k h e =
 
 -- a place of all caches
 pub place_read : PlaceRead
-place_read w p h = within_read 256 empty (table 10 (λ _. slot_of) w) p h
+place_read n w p h = within_read n empty (table 10 (λ _. slot_of) w) p h
 
 pub place_written : PlaceWritten
-place_written v w p x h e = within_written 256 empty (table 10 (λ _. slot_of) w) (table 10 (λ _. slot_of) v) p x h e
+place_written n v w p x h e = within_written n empty (table 10 (λ _. slot_of) w) (table 10 (λ _. slot_of) v) p x h e

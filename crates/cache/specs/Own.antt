@@ -6,7 +6,7 @@ use Rattle.words.specs.Parts.{block, table}
 use Rattle.cores.specs.Machines.{pick}
 use Rattle.cores.specs.Put.{put}
 use Rattle.cache.specs.Slots.{Slot, Found, missing, found, home, find, cached, seek, goes_first, chosen}
-use Rattle.cache.specs.Words.{slot_of, slots_of, caches_of, stored_in}
+use Rattle.cache.specs.Words.{caches_of, slot_of, slots_of, stored_in, table_of}
 
 -- g has the slots of core k, of all slots f
 abbrev pub Own : ℕ → (ℕ → Slot) → (ℕ → Slot) → Type 0
@@ -47,9 +47,10 @@ OwnStored = (k y v : ℕ) (f g : ℕ → Slot) → Own k f g → with_own k f (s
 abbrev pub OwnWordsWritten : Type 0
 OwnWordsWritten = (v w ys : List ℕ) (k : ℕ) → k < 4 → block 640 v ≡ put (block 640 w) k ys → caches_of v ≡ with_own k (caches_of w) (slots_of ys)
 
--- a place has what its ten words say, and a write to them is one to that place
+-- a place has what its ten words say, and a write to them is one to that place: of n places, so of a core's own 64 and of all 256
 abbrev pub PlaceRead : Type 0
-PlaceRead = (w : List ℕ) (p : ℕ) → p < 256 → table 10 (λ _. slot_of) w p ≡ caches_of w p
+PlaceRead = (n : ℕ) (w : List ℕ) (p : ℕ) → p < n → table 10 (λ _. slot_of) w p ≡ table_of n w p
 
 abbrev pub PlaceWritten : Type 0
-PlaceWritten = (v w : List ℕ) (p : ℕ) (x : Slot) → p < 256 → table 10 (λ _. slot_of) v ≡ put (table 10 (λ _. slot_of) w) p x → caches_of v ≡ put (caches_of w) p x
+PlaceWritten =
+    (n : ℕ) (v w : List ℕ) (p : ℕ) (x : Slot) → p < n → table 10 (λ _. slot_of) v ≡ put (table 10 (λ _. slot_of) w) p x → table_of n v ≡ put (table_of n w) p x

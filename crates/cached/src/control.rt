@@ -2,7 +2,7 @@
 use cores::port::{Event, Line};
 
 // How many cores there are, how many lines memory has, whose request the probes are for, whose turn it is, and which of two ways is replaced next.
-// The contracts of what reads and writes it say that the cores' numbers are below 4: ghost fields would put proofs into what words mean.
+// That `count` is at most 4 and `lead` and `turn` are below stands in the contracts of what reads and writes it, and not in the type: the definition of what words mean makes such values, and would have to prove it.
 #[derive(Clone, Copy)]
 pub struct Control {
     pub count: usize,

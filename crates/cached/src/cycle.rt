@@ -68,6 +68,7 @@ fn in_four(row: [Option<Line>; 8]) -> [Option<Line>; 4]
     requires { length (somes line_of row) ≤ 4 }
     ensures { somes line_of result ≡ somes line_of row }
 {
+    // `n` is counted, since a place of the four is taken for a line only.
     let mut four = [None; 4];
     let mut n = 0;
     for place in &row {

@@ -51,7 +51,7 @@ pub fn fresh(chip: &mut [u32], cores: usize, lines: u32) -> Result<(), Fault>
     if chip.len() < 16384 {
         return Err(Fault::ChipShort);
     }
-    if cores < 1 || cores > 4 {
+    if !(1..=4).contains(&cores) {
         return Err(Fault::Cores);
     }
     fresh_in(chip, cores, lines);
@@ -61,7 +61,7 @@ pub fn fresh(chip: &mut [u32], cores: usize, lines: u32) -> Result<(), Fault>
 fn all_off(chip: &Chip) -> bool
     ensures { result ≡ all_off (state_of chip.now) }
 {
-    !(is_on(chip, 0) || is_on(chip, 1) || is_on(chip, 2) || is_on(chip, 3))
+    !(0..4).any(|k| is_on(chip, k))
 }
 
 // Whether every core has stopped. Fewer than 16,384 words are refused.

@@ -140,7 +140,7 @@ pub(crate) fn set_content(chip: &mut Chip, k: usize, slot: SlotIndex, content: C
     put_at::<Slots>(&mut chip[749..3309], 64 * k + slot.number(), content);
 }
 
-// The same without its words.
+// What a slot of core k has, without the words of its line.
 fn tag(chip: &Chip, k: usize, slot: SlotIndex) -> Slot
     requires { k < 4 }
     ensures { holding result (words ((state_of chip.now).lines.slot (64 * k + slot))) ≡ (state_of chip.now).lines.slot (64 * k + slot) }

@@ -20,7 +20,7 @@ pub use without_caches::Uncached;
 
 // A chip whose state lies in lent words. A kind of chip is a type without values: whatever is generic in it holds of each.
 pub trait LentChip {
-    // how many cycles after every core has stopped memory is the machines'
+    // once every core has stopped, memory is the machines' after so many cycles more
     const DRAIN: u64;
 
     ghost DRAIN: { ℕ };

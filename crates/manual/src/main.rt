@@ -83,9 +83,9 @@ fn do_row(
     line: u64,
 ) -> anyhow::Result<()> {
     outcomes.clear();
-    if machines.run(memory, row, outcomes).is_err() {
-        return Err(anyhow!("no room for a row of events"));
-    }
+    machines
+        .run(memory, row, outcomes)
+        .map_err(|_| anyhow!("no room for a row of events"))?;
     for (event, outcome) in row.iter().zip(outcomes.iter()) {
         note(rt, tally, line, *event, *outcome)?;
     }

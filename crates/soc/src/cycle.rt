@@ -49,6 +49,7 @@ fn take_interrupts(chip: &mut Chip, up: [bool; 4]) -> [Option<Event>; 8]
     ensures out { only_did (somes event_of result) ≡ (each (take_interrupt rv (λ j. slice_index_or up j false)) 4 (state_of chip.old)).1 }
     ensures row { EmptyFrom 4 result }
 {
+    // A loop, as a closure that lends the chip on tells nothing of what it leaves there.
     let mut did = [None; 8];
     for k in 0..4 {
         did[k] = take_interrupt(chip, up, k);

@@ -32,7 +32,7 @@ pub(crate) fn run_cycles<C: LentChip, L: Listener>(
     requires { (PoweredOn C.lent header chip.old board.old) × ((16384 ≤ length chip.old) × (16 ≤ length said.old)) }
     ensures { MatchResult result (λ k. (k ≡ length (choices_in choices.now)) × Ran C.lent header.cores header.lines (memory_of header.lines board.old) (choices_in choices.now) chip.new board.new (L.heard listener.old) (L.heard listener.new)) (λ _. CutShort C.lent header.cores (memory_of header.lines board.old) (choices_in choices.now) (L.heard listener.old) (L.heard listener.new)) }
 {
-    // A cursor and not the iterator over the records, of which no contract says how many they are: a place in the bytes bounds the count.
+    // A cursor and not the iterator over the records: the cursor's place in the bytes bounds the count of cycles, which the iterator's contract does not.
     let mut at = 0;
     let mut done: u64 = 0;
     while let Some(record) = cycle_at(choices, at) {

@@ -10,4 +10,4 @@ unfolding part state_of
 returns c =
     let w = c.args.chip.now in
     let k = c.args.k in
-    c.at.ensures ∙ place_read (part 749 2560 w) (64 * k + c.number.result) (omega arith) ∙ ap (λ i. (state_of w).lines.slot (64 * k + i)) c.number.ensures.value
+    c.at.ensures ∙ place_read 256 (part 749 2560 w) (64 * k + c.number.result) (omega arith) ∙ ap (λ i. (state_of w).lines.slot (64 * k + i)) c.number.ensures.value

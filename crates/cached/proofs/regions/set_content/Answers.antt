@@ -16,5 +16,5 @@ returns c =
     let k = c.args.k in
     wrote 9 w v (omega arith) (omega arith) (omega arith)
     ∙ ap (with_slots (state_of w))
-    (place_written v (part 749 2560 w) (64 * k + c.number.result) (content_of c.args.content) (omega arith) c.put_at.ensures
+    (place_written 256 v (part 749 2560 w) (64 * k + c.number.result) (content_of c.args.content) (omega arith) c.put_at.ensures
     ∙ ap (λ i. put (state_of w).lines.slot (64 * k + i) (content_of c.args.content)) c.number.ensures.value)

@@ -12,4 +12,4 @@ returns c =
     let w = c.args.chip.now in
     let k = c.args.k in
     tag_of_slot (block 10 (part 749 2560 w) (64 * k + c.number.result)) _ _ c.at.ensures
-    (place_read (part 749 2560 w) (64 * k + c.number.result) (omega arith) ∙ ap (λ i. (state_of w).lines.slot (64 * k + i)) c.number.ensures.value)
+    (place_read 256 (part 749 2560 w) (64 * k + c.number.result) (omega arith) ∙ ap (λ i. (state_of w).lines.slot (64 * k + i)) c.number.ensures.value)
