@@ -125,8 +125,9 @@ fn print_memory(rt: &HostRuntime, path: &str, memory: &Memory) -> anyhow::Result
 fn save(rt: &HostRuntime, memory: &Memory, path: &str) -> anyhow::Result<()> {
     let bytes = memory.bytes.as_slice();
     let mut image = vec![in rt.alloc(); 0u8; bytes.len().saturating_add(9)]?;
-    store_bytes(memory.cores, bytes, image.as_mut_slice())
-        .map_err(|_| anyhow!("memory cannot be written out"))?;
+    store_bytes(memory.cores, bytes, image.as_mut_slice()).map_err(|_| anyhow!(
+        "memory cannot be written out"
+    ))?;
     fs::write(rt, path, image.as_slice())?;
     Ok(())
 }

@@ -20,8 +20,9 @@ pub fn save_memory(
     path: &str,
 ) -> anyhow::Result<()> {
     let mut bytes = vec![in rt.alloc(); 0u8; memory.len().saturating_mul(4).saturating_add(9)]?;
-    store(cores, memory, bytes.as_mut_slice())
-        .map_err(|_| anyhow!("memory cannot be written out"))?;
+    store(cores, memory, bytes.as_mut_slice()).map_err(|_| anyhow!(
+        "memory cannot be written out"
+    ))?;
     fs::write(rt, path, bytes.as_slice())?;
     Ok(())
 }
