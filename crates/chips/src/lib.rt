@@ -18,7 +18,7 @@ mod without_caches;
 pub use with_caches::Cached;
 pub use without_caches::Uncached;
 
-// A chip whose state lies in lent words. A kind of chip is a type without values: whatever is generic in it holds of each.
+// A chip whose state lies in lent words. A kind of chip is a type that holds nothing: what is generic in it is so of each kind.
 pub trait LentChip {
     // once every core has stopped, memory is the machines' after so many cycles more
     const DRAIN: u64;
