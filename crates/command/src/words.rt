@@ -1,5 +1,5 @@
 // The words of a command line, and what is wrong with them.
-ghost use Rattle.std.specs.Prelude.{◌≡◌, ◌+◌, ◌≤◌, IfNone, OnSome};
+ghost use Rattle.std.specs.Prelude.{◌≡◌, ◌+◌, ◌≤◌, IfNone, OnErr, OnOk, OnSome};
 ghost use Rattle.command.specs.CommandLine.{names_option, words_left};
 
 use anyhow::anyhow;
@@ -44,7 +44,9 @@ impl Words {
 
     // The word after an option.
     pub fn after(&mut self, option: &str, what: &str) -> anyhow::Result<String>
-        ensures { words_left self.new ≤ words_left self.old }
+        ensures ok { OnOk result (words_left self.new + 1 ≡ words_left self.old) }
+        ensures err { OnErr result (words_left self.old ≡ 0) }
+        ensures fewer { words_left self.new ≤ words_left self.old }
     {
         match self.next() {
             Some(word) => Ok(word),
@@ -54,7 +56,9 @@ impl Words {
 
     // The file after an option.
     pub fn file(&mut self, option: &str) -> anyhow::Result<String>
-        ensures { words_left self.new ≤ words_left self.old }
+        ensures ok { OnOk result (words_left self.new + 1 ≡ words_left self.old) }
+        ensures err { OnErr result (words_left self.old ≡ 0) }
+        ensures fewer { words_left self.new ≤ words_left self.old }
     {
         self.after(option, "a file is missing after")
     }
