@@ -24,11 +24,12 @@ pub struct Source {
     pub faults: Vec<Fault>,
 }
 
-// A statement, and the line that it is of.
-#[derive(Clone, Copy)]
-struct Row {
-    statement: Statement,
-    line: usize,
+// Statements, and the line of each. Two rows and not one of pairs: they are handed out as they are, and not copied.
+#[derive(Drop)]
+struct Rows {
+    statements: Vec<Statement>,
+    lines: Vec<usize>,
+    ghost paired: { vec_len lines ≡ vec_len statements },
 }
 
 // A source that is being read.
@@ -37,7 +38,7 @@ struct Draft<'a> {
     input: Operands<'a>,
     cores: Option<usize>,
     lines: Option<u32>,
-    rows: Vec<Row>,
+    rows: Rows,
     ghost few_cores: { (n : ℕ) → cores ≡ Some n → (1 ≤ n) × (n ≤ 4) },
     ghost few_lines: { (n : ℕ) → lines ≡ Some n → (1 ≤ n) × (n ≤ 65536) },
 }
@@ -67,10 +68,20 @@ fn add_value(rd: usize, rs1: usize, value: u32) -> Instruction {
     }
 }
 
+impl Rows {
+    // There is room for both before either is written.
+    fn push(&mut self, statement: Statement, line: usize) -> Result<(), AllocError> {
+        self.statements.reserve(1)?;
+        self.lines.reserve(1)?;
+        self.statements.push_reserved(statement);
+        self.lines.push_reserved(line);
+        Ok(())
+    }
+}
+
 impl<'a> Draft<'a> {
     fn emit(&mut self, statement: Statement) -> Result<(), Unread> {
-        let line = self.input.line;
-        self.rows.push(Row { statement, line })?;
+        self.rows.push(statement, self.input.line)?;
         Ok(())
     }
 
@@ -472,6 +483,10 @@ fn add_line<'a>(
     line: usize,
     text: &'a [u8],
 ) -> Result<(), AllocError> {
+    // it says nothing, and need not be looked at for labels
+    if text.is_empty() {
+        return Ok(());
+    }
     draft.input.line = line;
     draft.input.reader = Reader::new(text);
     match draft.read_line() {
@@ -514,7 +529,10 @@ pub fn read(heap: Global, text: &[u8]) -> Result<Source, AllocError>
         },
         cores: None,
         lines: None,
-        rows: Vec::new(heap),
+        rows: Rows {
+            statements: Vec::new(heap),
+            lines: Vec::new(heap),
+        },
     };
     let mut faults = Vec::new(heap);
     for (i, line) in text.split(|byte| *byte == b'\n').enumerate() {
@@ -525,8 +543,8 @@ pub fn read(heap: Global, text: &[u8]) -> Result<Source, AllocError>
         cores: draft.cores,
         lines: draft.lines,
         symbols: draft.input.symbols.count(),
-        statements: draft.rows.iter().map(|row| row.statement).collect(heap)?,
-        rows: draft.rows.iter().map(|row| row.line).collect(heap)?,
+        statements: draft.rows.statements,
+        rows: draft.rows.lines,
         faults,
     })
 }
