@@ -83,9 +83,10 @@ fn do_row(
     line: u64,
 ) -> anyhow::Result<()> {
     outcomes.clear();
-    machines
-        .run(memory, row, outcomes)
-        .map_err(|_| anyhow!("no room for a row of events"))?;
+    // not by `map_err`, which moves room for an error's text around in every row
+    let Ok(()) = machines.run(memory, row, outcomes) else {
+        return Err(anyhow!("no room for a row of events"));
+    };
     for (event, outcome) in row.iter().zip(outcomes.iter()) {
         note(rt, tally, line, *event, *outcome)?;
     }
