@@ -143,6 +143,8 @@ fn run(rt: &HostRuntime, options: &Options) -> anyhow::Result<bool> {
             &mut recorder,
         ),
     };
+    // memory for what is written out
+    drop(choices);
     let ended = match result {
         Ok(ended) => ended,
         Err(Stopped::Refused(refusal)) => return refused(rt, refusal),
