@@ -68,21 +68,18 @@ impl Words {
         word.parse().map_err(|_| self.wrong(what, word))
     }
 
-    // An error that says what is wrong with a word.
+    // An error that says what is wrong with a word, or only that something is where that text has no room.
     pub fn wrong(&self, what: &str, word: &str) -> anyhow::Error {
         let program = self.program;
         match format!(in self.heap; "{what}: {word} (see {program} --help)") {
             Ok(text) => anyhow!(text),
-            Err(e) => anyhow::Error::from(e),
+            Err(_) => anyhow!("wrong arguments (see {program} --help)"),
         }
     }
 
     // The same where no word is to blame.
     pub fn lacks(&self, what: &str) -> anyhow::Error {
         let program = self.program;
-        match format!(in self.heap; "{what} (see {program} --help)") {
-            Ok(text) => anyhow!(text),
-            Err(e) => anyhow::Error::from(e),
-        }
+        anyhow!("{what} (see {program} --help)")
     }
 }
