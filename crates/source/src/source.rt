@@ -539,12 +539,17 @@ pub fn read(heap: Global, text: &[u8]) -> Result<Source, AllocError>
         add_line(&mut draft, &mut faults, i.saturating_add(1), line)?;
     }
     add_undefined(&draft.input.symbols, &mut faults)?;
+    let symbols = draft.input.symbols.count();
+    let Rows {
+        statements,
+        lines: rows,
+    } = draft.rows;
     Ok(Source {
         cores: draft.cores,
         lines: draft.lines,
-        symbols: draft.input.symbols.count(),
-        statements: draft.rows.statements,
-        rows: draft.rows.lines,
+        symbols,
+        statements,
+        rows,
         faults,
     })
 }
