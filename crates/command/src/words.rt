@@ -1,6 +1,8 @@
 // The words of a command line, and what is wrong with them.
-ghost use Rattle.std.specs.Prelude.{◌≡◌, ◌+◌, ◌≤◌, IfNone, OnErr, OnOk, OnSome};
-ghost use Rattle.command.specs.CommandLine.{names_option, words_left};
+ghost use Rattle.std.specs.Prelude.{◌≡◌, ◌+◌, ◌≤◌, ◌++◌, ◌⊎◌, IfNone, OnErr, OnOk, OnSome, Some};
+ghost use Rattle.anyhow.specs.Error.{HasMessage};
+ghost use Rattle.command.specs.CommandLine.{blame, names_option, see_help, words_left};
+ghost use lib.Chars.{codes};
 
 use anyhow::anyhow;
 use std::alloc::Global;
@@ -68,17 +70,21 @@ impl Words {
         word.parse().map_err(|_| self.wrong(what, word))
     }
 
-    // An error that says what is wrong with a word, or only that something is where that text has no room.
-    pub fn wrong(&self, what: &str, word: &str) -> anyhow::Error {
+    // An error that says what is wrong with a word; or, where memory for that text is refused, that the arguments are wrong.
+    pub fn wrong(&self, what: &str, word: &str) -> anyhow::Error
+        ensures { HasMessage (Some (blame what.now word.now self.now.program.now)) result ⊎ HasMessage (Some (codes "wrong arguments" ++ see_help self.now.program.now)) result }
+    {
         let program = self.program;
         match format!(in self.heap; "{what}: {word} (see {program} --help)") {
-            Ok(text) => anyhow!(text),
+            Ok(text) => anyhow!("{text}"),
             Err(_) => anyhow!("wrong arguments (see {program} --help)"),
         }
     }
 
-    // The same where no word is to blame.
-    pub fn lacks(&self, what: &str) -> anyhow::Error {
+    // An error that says what is missing or wrong where no word is to blame, for which no memory is needed.
+    pub fn lacks(&self, what: &str) -> anyhow::Error
+        ensures { HasMessage (Some (what.now ++ see_help self.now.program.now)) result }
+    {
         let program = self.program;
         anyhow!("{what} (see {program} --help)")
     }
