@@ -143,7 +143,7 @@ fn run(rt: &HostRuntime, options: &Options) -> anyhow::Result<bool> {
             &mut recorder,
         ),
     };
-    // memory for what is written out
+    // Let go of here, so that what is written out can have their memory.
     drop(choices);
     let ended = match result {
         Ok(ended) => ended,

@@ -83,7 +83,7 @@ fn do_row(
     line: u64,
 ) -> anyhow::Result<()> {
     outcomes.clear();
-    // not by `map_err`, which moves room for an error's text around in every row
+    // Not by `map_err`, which moves the room for an error's text around in every row.
     let Ok(()) = machines.run(memory, row, outcomes) else {
         return Err(anyhow!("no room for a row of events"));
     };

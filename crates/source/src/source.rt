@@ -483,7 +483,7 @@ fn add_line<'a>(
     line: usize,
     text: &'a [u8],
 ) -> Result<(), AllocError> {
-    // it says nothing, and need not be looked at for labels
+    // An empty line says nothing; a source may have many.
     if text.is_empty() {
         return Ok(());
     }
